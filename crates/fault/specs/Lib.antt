@@ -1,0 +1,4 @@
+pub mod Listing
+pub mod Words
+pub mod First
+pub mod Judged
