@@ -1,0 +1,4 @@
+pub mod Bitwise
+pub mod Denoted
+pub mod Formed
+pub mod Tallness
