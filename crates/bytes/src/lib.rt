@@ -1,6 +1,7 @@
-// Big-endian numbers in lent bytes. Every read is total: past the end stand zeros.
+// Big-endian numbers in lent bytes, and the bits of a number. Every read is total: past the end stand zeros.
 ghost use mathlib.Core.Path.{_≡_};
 ghost use lib.ListN.{getD};
+ghost use Rattle.bytes.specs.Bits.{bit};
 ghost use Rattle.bytes.specs.Reads.{be};
 
 pub fn byte_at(bytes: &[u8], at: usize) -> u8
@@ -31,4 +32,11 @@ pub fn u64_at(bytes: &[u8], at: usize) -> u64
     let high = u32_at(bytes, at);
     let low = u32_at(bytes, at.saturating_add(4));
     high as u64 * 4294967296 + low as u64
+}
+
+// Whether bit `place` of the word, of value 2 ^ place, is set.
+pub fn bit_at(word: u64, place: usize) -> bool
+    ensures { λ r. ⌜ r ≡ bit word place ⌝ }
+{
+    place < 64 && (word >> place) % 2 == 1
 }

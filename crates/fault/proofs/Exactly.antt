@@ -6,10 +6,11 @@ use mathlib.Core.Logic.{_⊎_, inl, inr, ⊎-elim}
 use Prim.Native.Nat.{ℕ, _<_}
 use Rattle.std.specs.declared.result.Result.{Result}
 use Rattle.std.specs.declared.result.Result.the-variants.{Ok, Err}
+use native.Mathlib.Omega.{arith}
 use Rattle.std.proofs.shelf.Tests.{cases-order}
 use Rattle.fault.specs.declared.refusal.Fault.{Fault}
 use Rattle.fault.specs.First.{Below, FirstFail}
-use Rattle.fault.specs.Judged.{Rule, Refused, Everywhere, Meets, FirstRefused, Judged, Exact, Answer, fault}
+use Rattle.fault.specs.Judged.{Rule, Passes, Refused, Everywhere, Meets, FirstRefused, Judged, Exact, Answer, fault}
 
 pub first-once : (P : ℕ → Type 0) (n m p q : ℕ) → FirstFail P n p → FirstFail P m q → p ≡ q
 first-once P n m p q f g =
@@ -48,3 +49,12 @@ exactly cs r j =
       told = λ f e. subst (Judged cs) e j;
       only-told = λ f t. judged-once cs r (Err f) j t;
     }
+
+-- no answer is both
+pub never-both : (f : Fault) → _≡_ {A = Answer} (Ok tt) (Err f) → ⊥
+never-both f e = let z : _≡_ {A = ℕ} 0 1 = cc in omega arith
+
+-- one rule is a list of one
+pub alone : (c : Rule) (r : Answer) → Passes c r → Judged (c ∷ []) r
+alone c (Ok u) h = (h, tt)
+alone c (Err f) h = inl h

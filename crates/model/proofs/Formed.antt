@@ -52,8 +52,11 @@ all-fit b h i l =
     let k : i < rows b = omega (arith, rows-length b) in
     subst (Fits i) (sym (rows-at b i k)) (row-fits b i (h i k))
 
+pub fit-at : (b : List ℕ) → AllFit (rowsOf b) → (i : ℕ) → i < rows b → Fits i (rowAt b i)
+fit-at b fit i l = subst (Fits i) (rows-at b i l) (fit i (omega (arith, rows-length b)))
+
 -- the process of a row, by those of its parts
-pub process-at : (b : List ℕ) → Everywhere (row-rule b) → (i : ℕ) → i < rows b → process b i ≡ termOf (terms (rowsOf b)) (rowAt b i)
-process-at b h i l =
+pub process-at : (b : List ℕ) → AllFit (rowsOf b) → (i : ℕ) → i < rows b → process b i ≡ termOf (terms (rowsOf b)) (rowAt b i)
+process-at b fit i l =
     let k : i < length (rowsOf b) = omega (arith, rows-length b) in
-    row-term (rowsOf b) (all-fit b h) i k ∙ ap (termOf (terms (rowsOf b))) (rows-at b i l)
+    row-term (rowsOf b) fit i k ∙ ap (termOf (terms (rowsOf b))) (rows-at b i l)

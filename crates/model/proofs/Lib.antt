@@ -1,4 +1,5 @@
-pub mod Bitwise
 pub mod Denoted
 pub mod Formed
 pub mod Tallness
+pub mod Opened
+pub mod Facts

@@ -4,3 +4,6 @@ pub mod Rows
 pub mod File
 pub mod Rules
 pub mod Tall
+pub mod Sound
+pub mod Opening
+pub mod Models

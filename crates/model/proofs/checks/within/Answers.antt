@@ -3,7 +3,7 @@ use mathlib.Core.Path.{_≡_}
 use native.Mathlib.Omega.{arith}
 use Rattle.std.proofs.shelf.Tests.{eqb-true, eq-eqb}
 use Rattle.std.proofs.shelf.Bits.{pow-pos, div-below}
-use Rattle.model.proofs.Bitwise.{below-from-shift}
+use Rattle.bytes.proofs.Bitwise.{below-from-shift}
 use Rattle.model.proofs.checks.within.Needs as need
 
 pub returns-else-e-eq62 : need.returns-else-e-eq62

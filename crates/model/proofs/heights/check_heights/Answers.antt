@@ -9,6 +9,7 @@ use lib.ListN.{length, getD, length-set}
 use lib.Seq.{getD-set-same, getD-set-other}
 use Rattle.model.specs.File.{process, rows}
 use Rattle.model.specs.Terms.{height}
+use Rattle.model.proofs.Formed.{all-fit}
 use Rattle.model.proofs.Tallness.{tall-row}
 use Rattle.model.proofs.heights.check_heights.Needs as need
 
@@ -18,7 +19,7 @@ returns-then-high-ge64 c =
     let i : ℕ = c .loop-i .i in
     let lt : i < rows b = omega (arith, c .loop-i-test .taken, c .rows-i-end .ensures .value) in
     let e : height (process b i) ≡ 1 + max (c .part-height-left .result) (c .part-height-right .result) =
-    tall-row b (c .pre .fit) i lt (c .loop-i .heights) (c .loop-i .inv .1) (c .row-at-row .result) (c .shape-shape .result) _ _ (c .row-at-row .ensures) (c .shape-shape .ensures) (c .part-height-left .ensures) (c .part-height-right .ensures)
+    tall-row b (all-fit b (c .pre .fit)) i lt (c .loop-i .heights) (c .loop-i .inv .1) (c .row-at-row .result) (c .shape-shape .result) _ _ (c .row-at-row .ensures) (c .shape-shape .ensures) (c .part-height-left .ensures) (c .part-height-right .ensures)
     in
     record {
       told = refl;
@@ -31,7 +32,7 @@ loop-i-again c =
     let i : ℕ = c .loop-i .i in
     let lt : i < rows b = omega (arith, c .loop-i-test .taken, c .rows-i-end .ensures .value) in
     let e : height (process b i) ≡ 1 + max (c .part-height-left .result) (c .part-height-right .result) =
-    tall-row b (c .pre .fit) i lt (c .loop-i .heights) (c .loop-i .inv .1) (c .row-at-row .result) (c .shape-shape .result) _ _ (c .row-at-row .ensures) (c .shape-shape .ensures) (c .part-height-left .ensures) (c .part-height-right .ensures)
+    tall-row b (all-fit b (c .pre .fit)) i lt (c .loop-i .heights) (c .loop-i .inv .1) (c .row-at-row .result) (c .shape-shape .result) _ _ (c .row-at-row .ensures) (c .shape-shape .ensures) (c .part-height-left .ensures) (c .part-height-right .ensures)
     in
     let t : height (process b i) ≡ c .max-high .result + 1 = omega (arith, e, c .max-high .ensures) in
     let w : i < length (c .loop-i .heights) = omega (arith, lt, c .pre .few, c .loop-i .inv .0) in (
