@@ -21,7 +21,7 @@ use Rattle.model.specs.declared.op.Use.the-variants.{Part}
 use Rattle.model.specs.declared.op.Row.{Row}
 use Rattle.model.specs.Ops.{shape}
 use Rattle.model.specs.Terms.{Term, none, node, Open, name, sequence, hiding, external-left, external-right, parallel-left, parallel-right, interrupt-left, interrupt-right}
-use Rattle.model.specs.Opening.{OpenBits, openSet, OpenedBelow}
+use Rattle.model.specs.Opening.{OpenBits, openSet, openOf, OpenedAs, OpenedBelow}
 use Rattle.model.specs.Rows.{partOf, leftOf, rightOf, termOf, terms, PartIn, AllFit}
 use Rattle.model.specs.File.{rows, rowAt, rowsOf, process, definitions}
 use Rattle.model.specs.Sound.{Named}
@@ -59,19 +59,37 @@ opened-by (Hide m) p q a b n l r = alike a p _ (λ e. hiding) (λ e h. elim h [ 
 opened-by Interrupt p q a b n l r = either a b p q _ (λ e. ⊎-elim interrupt-left interrupt-right) (λ e h. elim h [ interrupt-left k ↦ inl k | interrupt-right k ↦ inr k ]) (l refl) (r refl)
 opened-by (Name d) p q a b n l r = own d p q (n d refl)
 
-part-opened : (b sets : List ℕ) (u : Use) (p i : ℕ) → PartIn u p i → OpenedBelow b sets i → u ≡ Part → OpenBits (getD sets p 0) (partOf u (terms (rowsOf b)) p)
+same-set : (o : Op) (a b a′ b′ : ℕ) → (shape o .left ≡ Part → a ≡ a′) → (shape o .right ≡ Part → b ≡ b′) → openSet o a b ≡ openSet o a′ b′
+same-set Stop a b a′ b′ l r = refl
+same-set Skip a b a′ b′ l r = refl
+same-set Omega a b a′ b′ l r = refl
+same-set (Prefix x) a b a′ b′ l r = refl
+same-set External a b a′ b′ l r = λ i. bitOr (l refl i) (r refl i)
+same-set Internal a b a′ b′ l r = refl
+same-set Sequence a b a′ b′ l r = l refl
+same-set (Parallel m) a b a′ b′ l r = λ i. bitOr (l refl i) (r refl i)
+same-set (Hide m) a b a′ b′ l r = l refl
+same-set Interrupt a b a′ b′ l r = λ i. bitOr (l refl i) (r refl i)
+same-set (Name d) a b a′ b′ l r = refl
+
+part-opened : (b sets : List ℕ) (u : Use) (p i : ℕ) → PartIn u p i → OpenedBelow b sets i → u ≡ Part → OpenedAs (getD sets p 0) (partOf u (terms (rowsOf b)) p)
 part-opened b sets u p i h known e =
     let lt : p < i = subst (λ (v : Use). PartIn v p i) e h in
-    subst (λ (v : Use). OpenBits (getD sets p 0) (partOf v (terms (rowsOf b)) p)) (sym e) (known p lt)
+    subst (λ (v : Use). OpenedAs (getD sets p 0) (partOf v (terms (rowsOf b)) p)) (sym e) (known p lt)
 
 -- one row more
-pub opened-row : (b sets : List ℕ) → AllFit (rowsOf b) → Named b → definitions b ≤ 64 → (i : ℕ) → i < rows b → OpenedBelow b sets i → (r : Row) → r ≡ rowAt b i → OpenBits (openSet (r .op) (getD sets (r .left) 0) (getD sets (r .right) 0)) (process b i)
+pub opened-row : (b sets : List ℕ) → AllFit (rowsOf b) → Named b → definitions b ≤ 64 → (i : ℕ) → i < rows b → OpenedBelow b sets i → (r : Row) → r ≡ rowAt b i → OpenedAs (openSet (r .op) (getD sets (r .left) 0) (getD sets (r .right) 0)) (process b i)
 opened-row b sets fit named few i lt known r er =
     let q : Row = rowAt b i in
     let f = fit-at b fit i lt in
     let n : (d : ℕ) → q .op ≡ Name d → d < 64 = λ d e. let k : d < definitions b = named i lt d e in omega arith in
-    let h =
-    opened-by (q .op) (leftOf (terms (rowsOf b)) q) (rightOf (terms (rowsOf b)) q) (getD sets (q .left) 0) (getD sets (q .right) 0) n (part-opened b sets (shape (q .op) .left) (q .left) i (f .left) known) (part-opened b sets (shape (q .op) .right) (q .right) i (f .right) known)
+    let l = part-opened b sets (shape (q .op) .left) (q .left) i (f .left) known in
+    let m = part-opened b sets (shape (q .op) .right) (q .right) i (f .right) known in
+    let h : OpenedAs (openSet (q .op) (getD sets (q .left) 0) (getD sets (q .right) 0)) (termOf (terms (rowsOf b)) q) =
+    record {
+      value = same-set (q .op) _ _ _ _ (λ e. l e .value) (λ e. m e .value);
+      bits = opened-by (q .op) (leftOf (terms (rowsOf b)) q) (rightOf (terms (rowsOf b)) q) (getD sets (q .left) 0) (getD sets (q .right) 0) n (λ e. l e .bits) (λ e. m e .bits);
+    }
     in
-    let g : OpenBits (openSet (q .op) (getD sets (q .left) 0) (getD sets (q .right) 0)) (process b i) = subst (OpenBits (openSet (q .op) (getD sets (q .left) 0) (getD sets (q .right) 0))) (sym (process-at b fit i lt)) h in
-    subst (λ (z : Row). OpenBits (openSet (z .op) (getD sets (z .left) 0) (getD sets (z .right) 0)) (process b i)) (sym er) g
+    let g : OpenedAs (openSet (q .op) (getD sets (q .left) 0) (getD sets (q .right) 0)) (process b i) = subst (OpenedAs (openSet (q .op) (getD sets (q .left) 0) (getD sets (q .right) 0))) (sym (process-at b fit i lt)) h in
+    subst (λ (z : Row). OpenedAs (openSet (z .op) (getD sets (z .left) 0) (getD sets (z .right) 0)) (process b i)) (sym er) g

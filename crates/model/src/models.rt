@@ -6,7 +6,7 @@ ghost use Rattle.fault.specs.Judged.{Exact, Passes};
 ghost use Rattle.bytes.specs.Bits.{bit};
 ghost use Rattle.model.specs.File.{rows, process};
 ghost use Rattle.model.specs.Models.{drafted-file, settled-file};
-ghost use Rattle.model.specs.Opening.{OpenBits};
+ghost use Rattle.model.specs.Opening.{OpenedAs};
 ghost use Rattle.model.specs.Rules.{open-rule, settle-rules};
 ghost use Rattle.model.specs.Sound.{Facts, Lower, TakenUp, SettledUp};
 use crate::checks::check;
@@ -95,7 +95,7 @@ impl<'a> Drafted<'a> {
 
     // The definitions that are open in row i, as bits; none past the rows.
     pub fn open_in(&self, i: usize) -> u64
-        ensures row { λ r. ⌜ (i < rows (drafted-file (now (self .entry))) → OpenBits r (process (drafted-file (now (self .entry))) i)) ⌝ }
+        ensures row { λ r. ⌜ (i < rows (drafted-file (now (self .entry))) → OpenedAs r (process (drafted-file (now (self .entry))) i)) ⌝ }
         ensures past { λ r. ⌜ (rows (drafted-file (now (self .entry))) ≤ i → r ≡ 0) ⌝ }
     {
         let file = self.file;

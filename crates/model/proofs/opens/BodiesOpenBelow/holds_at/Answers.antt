@@ -17,7 +17,7 @@ returns c =
     let d : ℕ = c .args .d in
     let w : ℕ = c .set-at-set .result in
     let e : w ≡ getD ss (definitionAt b d) 0 = c .set-at-set .ensures ∙ ap (λ (k : ℕ). getD ss k 0) (c .definition-at .ensures) in
-    let o : OpenBits w (body b d) = subst (λ (z : ℕ). OpenBits z (body b d)) (sym e) (c .pre .3 (definitionAt b d) (c .pre .2 d (c .pre .1))) in (
+    let o : OpenBits w (body b d) = subst (λ (z : ℕ). OpenBits z (body b d)) (sym e) (c .pre .3 (definitionAt b d) (c .pre .2 d (c .pre .1)) .bits) in (
       λ t k h. bits-from-below w d (below-from-shift w d (eqb-true _ _ t)) k (o k .1 h),
       λ all. eq-eqb _ _ (shift-from-below w d (below-from-bits w d (omega arith) (λ k t. all k (o k .0 t)))),
     )
