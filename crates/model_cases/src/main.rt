@@ -9,18 +9,26 @@ use model::check;
 use std::alloc::Global;
 use std::error::AnyError;
 
-// Prints what check answers, and then what settling does.
+// The rows of the settled model: none where the file or settling was refused.
+fn settled_rows(file: &[u8]) -> usize {
+    let draft = Drafted::take_up(file);
+    let settled = draft.settle();
+    settled.file().rows()
+}
+
+// Prints what check answers, or settling after it, and how many rows the settled model has.
 fn report(rt: &impl Print, name: &str, file: &[u8]) -> Result<(), AnyError> {
     let mut answer = check(file);
     if answer.is_ok() {
         answer = Drafted::take_up(file).check_settled();
     }
+    let rows = settled_rows(file);
     match answer {
-        Ok(()) => println!(rt, "{name}: settled")?,
+        Ok(()) => println!(rt, "{name}: settled, rows {rows}")?,
         Err(fault) => {
             let number = fault.refusal.number();
             let place = fault.place;
-            println!(rt, "{name}: {number} {place}")?;
+            println!(rt, "{name}: {number} {place}, rows {rows}")?;
         }
     }
     Ok(())
