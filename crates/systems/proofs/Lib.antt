@@ -1,0 +1,4 @@
+pub mod Entries
+pub mod Tracing
+pub mod Moving
+pub mod Determining

@@ -1,0 +1,4 @@
+pub mod Runs
+pub mod Meaning
+pub mod Moves
+pub mod Registers

@@ -1,0 +1,15 @@
+// Systems by their meaning: a start and, for each state, a list of steps.
+pub mod register;
+pub mod system;
+
+pub use fault::Fault;
+pub use fault::Refusal;
+pub use register::Register;
+pub use register::RegisterNormal;
+pub use register::RegisterSystem;
+pub use system::Normal;
+pub use system::Pair;
+pub use system::System;
+pub use system::TuplePair;
+pub use system::determined;
+pub use system::moved;
