@@ -2,3 +2,4 @@ pub mod Entries
 pub mod Tracing
 pub mod Moving
 pub mod Determining
+pub mod Faults

@@ -2,3 +2,4 @@ pub mod Runs
 pub mod Meaning
 pub mod Moves
 pub mod Registers
+pub mod Faults
