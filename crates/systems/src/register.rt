@@ -9,6 +9,8 @@ use crate::system::Normal;
 use crate::system::System;
 use fault::Fault;
 use fault::Refusal;
+use first_seen::NumberSame;
+use first_seen::Same;
 
 #[derive(Clone, Copy)]
 pub struct Register {
@@ -60,6 +62,10 @@ pub impl System for Register as RegisterSystem {
         0
     }
 
+    fn same(a: &u16, b: &u16) -> bool {
+        a.same(b)
+    }
+
     fn step(&self, at: u16, k: usize) -> Option<(u8, u16)> {
         if at > self.limit {
             return None;
@@ -77,10 +83,6 @@ pub impl System for Register as RegisterSystem {
             1 => Some(fall),
             _ => None,
         }
-    }
-
-    fn same(a: &u16, b: &u16) -> bool {
-        *a == *b
     }
 }
 
