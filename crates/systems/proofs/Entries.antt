@@ -11,7 +11,7 @@ use Rattle.std.specs.Finite.{nth}
 use Rattle.std.specs.declared.option.Option.the-variants.{Some, None}
 use Rattle.std.proofs.shelf.Maps.{nth-read, nth-past, nth-getD}
 use Rattle.std.proofs.shelf.Tests.{cases-lt, cases-bool, cond-true, cond-false, eqb-true, eq-eqb}
-use Rattle.systems.specs.Meaning.{Lts, Listed, Steps, follow, Lone}
+use Rattle.systems.specs.Meaning.{Lts, Listed, Steps, Lawful, follow, Lone}
 
 pub some-not-none : {X : Type 0} (x : X) → Some x ≡ None → ⊥
 some-not-none x e = let z : _≡_ {A = ℕ} 0 1 = cc in omega arith
@@ -28,6 +28,17 @@ nth-within xs k x e = ⊎-elim (λ h. h) (λ h. absurd (some-not-none x (sym e �
 pub past-none : {X : Type 0} (xs : List X) (k : ℕ) → nth xs k ≡ None → length xs ≤ k
 past-none [] k e = omega arith
 past-none (x ∷ xs) k e = ⊎-elim (λ h. absurd (some-not-none (getD (x ∷ xs) k x) (sym (nth-getD (x ∷ xs) k x h) ∙ e))) (λ h. h) (cases-lt k (length (x ∷ xs)))
+
+-- what the step question answers: its place is within the list, which is short, and its event is below 64
+module _ {S : Type 0} (m : Lts S) (s : S) (k : ℕ) (x : ℕ × S) (at : Some x ≡ nth (m .steps s) k) where
+  pub step-within : k < length (m .steps s)
+  step-within = nth-within (m .steps s) k x (sym at)
+
+  pub step-few : Lawful m → k < 66048
+  step-few lawful = let h = step-within in let f = lawful .few s in omega arith
+
+  pub step-low : Lawful m → x .0 < 64
+  step-low lawful = lawful .low s (x .1) k (x .0) (sym at)
 
 -- what a loop reads at place i
 pub nth-item : {X : Type 0} (xs : List X) (i : ℕ) (x : X) → i < length xs → x ≡ getD xs i x → nth xs i ≡ Some x

@@ -1,0 +1,2 @@
+// Two tables side by side under a mask of events.
+pub mod scan;
