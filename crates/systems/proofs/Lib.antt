@@ -3,3 +3,4 @@ pub mod Tracing
 pub mod Moving
 pub mod Determining
 pub mod Faults
+pub mod Tabling

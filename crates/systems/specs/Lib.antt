@@ -3,3 +3,4 @@ pub mod Meaning
 pub mod Moves
 pub mod Registers
 pub mod Faults
+pub mod Tables

@@ -1,6 +1,7 @@
 // Systems by their meaning: a start and, for each state, a list of steps.
 pub mod register;
 pub mod system;
+pub mod tables;
 
 pub use fault::Fault;
 pub use fault::Refusal;
@@ -13,3 +14,6 @@ pub use system::System;
 pub use system::TuplePair;
 pub use system::determined;
 pub use system::moved;
+pub use tables::NormalTableNormal;
+pub use tables::NormalTableSystem;
+pub use tables::TableSystem;
