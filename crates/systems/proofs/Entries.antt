@@ -11,19 +11,11 @@ use Rattle.std.specs.Finite.{nth}
 use Rattle.std.specs.declared.option.Option.the-variants.{Some, None}
 use Rattle.std.proofs.shelf.Maps.{nth-read, nth-past, nth-getD}
 use Rattle.std.proofs.shelf.Tests.{cases-lt, cases-bool, cond-true, cond-false, eqb-true, eq-eqb}
+pub use Rattle.table.proofs.Entries.{some-same, some-not-none, nth-within}
 use Rattle.systems.specs.Meaning.{Lts, Listed, Steps, Lawful, follow, Lone}
-
-pub some-not-none : {X : Type 0} (x : X) → Some x ≡ None → ⊥
-some-not-none x e = let z : _≡_ {A = ℕ} 0 1 = cc in omega arith
-
-pub some-same : {X : Type 0} (x y : X) → Some x ≡ Some y → x ≡ y
-some-same x y e = cc
 
 pub pair-same : {D S : Type 0} (p : D × S) (d : D) (s : S) → p .0 ≡ d → p .1 ≡ s → p ≡ (d, s)
 pair-same {D} {S} p d s a b = ap (λ (x : D). (x, p .1)) a ∙ ap (λ (y : S). (d, y)) b
-
-pub nth-within : {X : Type 0} (xs : List X) (k : ℕ) (x : X) → nth xs k ≡ Some x → k < length xs
-nth-within xs k x e = ⊎-elim (λ h. h) (λ h. absurd (some-not-none x (sym e ∙ nth-past xs k h))) (cases-lt k (length xs))
 
 pub past-none : {X : Type 0} (xs : List X) (k : ℕ) → nth xs k ≡ None → length xs ≤ k
 past-none [] k e = omega arith

@@ -5,6 +5,9 @@ pub mod tables;
 
 pub use fault::Fault;
 pub use fault::Refusal;
+pub use first_seen::NumberSame;
+pub use first_seen::PairSame;
+pub use first_seen::Same;
 pub use register::Register;
 pub use register::RegisterNormal;
 pub use register::RegisterSystem;
@@ -14,6 +17,8 @@ pub use system::System;
 pub use system::TuplePair;
 pub use system::determined;
 pub use system::moved;
+pub use table::NormalTable;
+pub use table::Table;
 pub use tables::NormalTableNormal;
 pub use tables::NormalTableSystem;
 pub use tables::TableSystem;
