@@ -1,7 +1,11 @@
 // The audit at work on registers, tables and tables side by side: what it accepts, and each of its refusals.
 ghost use mathlib.Core.Path.{_≡_};
+ghost use Rattle.std.specs.Results.{isOk};
 ghost use Rattle.std.specs.declared.result.Result.the-variants.{Err};
 ghost use Rattle.systems.specs.Faults.{fault, AuditStart};
+
+mod toggle;
+
 use audit::audit;
 use beside::Beside;
 use beside::BesideSystem;
@@ -19,6 +23,9 @@ use systems::System;
 use systems::Table;
 use systems::TableSystem;
 use systems::TuplePair;
+use toggle::Toggle;
+use toggle::ToggleNormal;
+use toggle::ToggleSystem;
 
 // A counter of two states: event 2 leads up, event 3 down.
 const COUNTER: [u8; 32] = [
@@ -334,6 +341,42 @@ fn listing(rt: &LibcRuntime) -> io::Result<()> {
     Ok(())
 }
 
+fn made(register: Result<Register, Fault>) -> Result<(), Fault>
+    ensures { λ r. ⌜ isOk r ≡ isOk register ⌝ }
+{
+    match register {
+        Ok(_) => Ok(()),
+        Err(fault) => Err(fault),
+    }
+}
+
+// Both sides of each limit on a register's events, and the least register.
+fn limits(rt: &LibcRuntime, three: &Register) -> io::Result<()> {
+    show(
+        rt,
+        "events 2, 3 and 63",
+        made(Register::new(65535, 2, 3, 63)),
+    )?;
+    show(rt, "event 64", made(Register::new(3, 2, 3, 64)))?;
+    show(rt, "event 1", made(Register::new(3, 2, 1, 4)))?;
+    show(rt, "an event twice", made(Register::new(3, 2, 3, 2)))?;
+    let Ok(none) = Register::new(0, 2, 3, 4) else {
+        return Ok(());
+    };
+    show(rt, "limit 0 against 3", audit(&none, three, &[(0, 0)]))?;
+    show(rt, "limit 3 against 0", audit(three, &none, &[(0, 0)]))?;
+    show(
+        rt,
+        "a toggle against limit 3",
+        audit(&Toggle, three, &[(0, 0), (1, 1)]),
+    )?;
+    show(
+        rt,
+        "limit 3 against a toggle",
+        audit(three, &Toggle, &[(0, 0), (1, 1)]),
+    )
+}
+
 fn tables(rt: &LibcRuntime, three: &Register) -> io::Result<()> {
     let counter = Table::take_up(&COUNTER);
     show(
@@ -423,6 +466,7 @@ fn main(rt: LibcRuntime) -> io::Result<()> {
         return Ok(());
     };
     registers(&rt, &three, &four, &renamed)?;
+    limits(&rt, &three)?;
     tables(&rt, &three)?;
     side_by_side(&rt)?;
     listing(&rt)

@@ -1,5 +1,5 @@
 // Two tables side by side under a mask of events.
-pub mod scan;
+mod scan;
 pub mod two;
 
 pub use two::Beside;
