@@ -16,6 +16,7 @@ pub use system::Pair;
 pub use system::System;
 pub use system::TuplePair;
 pub use system::determined;
+pub use system::kept;
 pub use system::moved;
 pub use table::NormalTable;
 pub use table::Table;
