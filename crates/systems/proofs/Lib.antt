@@ -4,3 +4,4 @@ pub mod Moving
 pub mod Determining
 pub mod Faults
 pub mod Tabling
+pub mod Reaching
