@@ -1,19 +1,22 @@
 -- The bare table meets every rule: its one pair is empty and it has no steps.
-use mathlib.Core.Path.{_≡_, refl}
+use mathlib.Core.Path.{_≡_, refl, _∙_}
+use mathlib.Core.Logic.{⊎-elim}
 use mathlib.Core.List.{List, []}
 use Prim.Native.Nat.{ℕ, zero, suc, _<_, _≤_}
 use native.Mathlib.Omega.{arith}
 use lib.Dec.{lit<, lit≤}
 use Rattle.std.specs.Finite.{nth}
+use Rattle.std.proofs.shelf.Lists.{nil-from-length}
+use Rattle.std.proofs.shelf.Tests.{cases-lt}
 use Rattle.std.specs.declared.option.Option.the-variants.{Some}
 use Rattle.fault.specs.First.{Below}
 use Rattle.fault.specs.Judged.{Everywhere}
 use Rattle.bytes.specs.Reads.{be}
 use Rattle.table.specs.declared.step.Step.{Step}
-use Rattle.table.specs.Form.{states, all-steps, size, steps-of}
+use Rattle.table.specs.Form.{states, start, all-steps, size, steps-of}
 use Rattle.table.specs.Rules.{Sized, Formed, Ended, Pair-ok, pair-rule, normal-rule}
-use Rattle.table.specs.Taken.{bare}
-use Rattle.table.proofs.Entries.{Placed, placed}
+use Rattle.table.specs.Taken.{bare, Bare}
+use Rattle.table.proofs.Entries.{Placed, placed, steps-length, steps-out}
 
 pub bare-sized : Sized bare
 unfolding be
@@ -47,3 +50,17 @@ no-entry s k x e =
 
 pub bare-normal : Everywhere (normal-rule bare)
 bare-normal s h = (λ k x e _. no-entry s k x e, λ j k x y p q _. absurd (no-entry s j x p))
+
+bare-size : (s : ℕ) → s < states bare → size bare s ≡ 0
+bare-size s h = let l = bare-pairs s (omega arith) in omega (arith, none, l .2)
+
+bare-steps : (s : ℕ) → steps-of bare s ≡ []
+bare-steps s =
+    ⊎-elim
+    (λ h. nil-from-length (steps-of bare s) (steps-length bare s h ∙ bare-size s h))
+    (λ h. steps-out bare s h)
+    (cases-lt s (states bare))
+
+pub bare-is : Bare bare
+unfolding be
+bare-is = record { bytes = refl; one = refl; first = refl; none = bare-steps }
