@@ -18,6 +18,7 @@ pub use system::TuplePair;
 pub use system::determined;
 pub use system::kept;
 pub use system::moved;
+pub use system::reached_by_runs;
 pub use table::NormalTable;
 pub use table::Table;
 pub use tables::NormalTableNormal;

@@ -36,3 +36,9 @@ pub record Lone (b : List ℕ) : Type 0 where
 abbrev pub follow : List Step → ℕ → Option ℕ
 follow [] e = None
 follow (x ∷ xs) e = cond (eqb (x .event) e) (Some (x .target)) (follow xs e)
+
+-- where an event leads from a state with the list xs: nowhere where no entry has the event; else to the
+-- target of an entry that has it, which is the target of each such entry
+abbrev pub Leads : List Step → ℕ → Option ℕ → Type 0
+Leads xs e None = (k : ℕ) (x : Step) → nth xs k ≡ Some x → x .event ≡ e → ⊥
+Leads xs e (Some t) = ((k : ℕ) × (nth xs k ≡ Some (record { event = e; target = t }))) × ((k : ℕ) (x : Step) → nth xs k ≡ Some x → x .event ≡ e → x .target ≡ t)

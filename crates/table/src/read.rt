@@ -5,7 +5,7 @@ ghost use Rattle.std.specs.Orderings.{Decides};
 ghost use Rattle.fault.specs.Judged.{Meets};
 ghost use Rattle.table.specs.Form.{states, start, steps-of};
 ghost use Rattle.table.specs.Rules.{table-rules, normal-rules};
-ghost use Rattle.table.specs.Steps.{Lawful, Lone, follow};
+ghost use Rattle.table.specs.Steps.{Lawful, Lone, follow, Leads};
 ghost use Rattle.table.specs.Taken.{Taken};
 use crate::checking::check;
 use crate::fields::offset_of;
@@ -129,6 +129,7 @@ impl<'a> NormalTable<'a> {
     // The one state that the event leads to from a state, or nothing where its list has no such event.
     pub fn after(&self, state: u16, event: u8) -> Option<u16>
         ensures value { λ r. ⌜ r ≡ follow (steps-of (now (now (self .entry) .table .bytes)) state) event ⌝ }
+        ensures leads { λ r. ⌜ Leads (steps-of (now (now (self .entry) .table .bytes)) state) event r ⌝ }
         ensures lawful { λ r. ⌜ Lawful (now (now (self .entry) .table .bytes)) ⌝ }
         ensures lone { λ r. ⌜ Lone (now (now (self .entry) .table .bytes)) ⌝ }
     {

@@ -55,15 +55,29 @@ fn tell(rt: &LibcRuntime, name: &str, bytes: &[u8]) -> io::Result<()> {
     println!(rt, "")
 }
 
-fn tried(
-    rt: &LibcRuntime,
-    name: &str,
+#[derive(Clone, Copy)]
+struct Sample<'a> {
+    name: &'a str,
     start: u16,
-    pairs: &[(u32, u32)],
-    steps: &[Step],
-) -> io::Result<()> {
-    let bytes = bytes_of(rt.alloc(), start, pairs, steps)?;
-    tell(rt, name, &bytes)
+    pairs: &'a [(u32, u32)],
+    steps: &'a [Step],
+}
+
+fn case<'a>(name: &'a str, start: u16, pairs: &'a [(u32, u32)], steps: &'a [Step]) -> Sample<'a> {
+    Sample {
+        name,
+        start,
+        pairs,
+        steps,
+    }
+}
+
+fn tell_each(rt: &LibcRuntime, cases: &[Sample]) -> io::Result<()> {
+    for case in cases {
+        let bytes = bytes_of(rt.alloc(), case.start, case.pairs, case.steps)?;
+        tell(rt, case.name, &bytes)?;
+    }
+    Ok(())
 }
 
 // A table of one state without steps, and zeros to the end, which its head tells as steps of a gap.
@@ -93,56 +107,70 @@ fn lengths(rt: &LibcRuntime) -> io::Result<()> {
 }
 
 fn pairs(rt: &LibcRuntime) -> io::Result<()> {
-    let long = [to(A, 0); 257];
     let two = [to(A, 1), to(3, 0)];
-    tried(rt, "no states", 0, &[], &[])?;
-    tried(rt, "start is the last", 1, &[(0, 0), (0, 0)], &[])?;
-    tried(rt, "start past the last", 2, &[(0, 0), (0, 0)], &[])?;
-    tried(rt, "wrong start, wrong pair", 2, &[(0, 0), (0, 1)], &[])?;
-    tried(rt, "right start, wrong pair", 0, &[(0, 0), (0, 1)], &[])?;
-    tried(rt, "a list to the end", 0, &[(0, 1), (1, 1)], &two)?;
-    tried(rt, "a list past the end", 0, &[(0, 1), (1, 2)], &two)?;
-    tried(rt, "lists that overlap", 0, &[(0, 2), (1, 1)], &two)?;
-    tried(rt, "an empty list inside", 0, &[(0, 2), (1, 0)], &two)?;
-    tried(rt, "lists out of order", 0, &[(1, 1), (0, 1)], &two)?;
-    tried(rt, "a list of 256", 0, &[(0, 256)], &long[0..256])?;
-    tried(rt, "a list of 257", 0, &[(0, 257)], &long)
+    tell_each(
+        rt,
+        &[
+            case("no states", 0, &[], &[]),
+            case("start is the last", 1, &[(0, 0), (0, 0)], &[]),
+            case("start past the last", 2, &[(0, 0), (0, 0)], &[]),
+            case("wrong start, wrong pair", 2, &[(0, 0), (0, 1)], &[]),
+            case("right start, wrong pair", 0, &[(0, 0), (0, 1)], &[]),
+            case("a list to the end", 0, &[(0, 1), (1, 1)], &two),
+            case("a list past the end", 0, &[(0, 1), (1, 2)], &two),
+            case("lists that overlap", 0, &[(0, 2), (1, 1)], &two),
+            case("an empty list inside", 0, &[(0, 2), (1, 0)], &two),
+            case("lists out of order", 0, &[(1, 1), (0, 1)], &two),
+        ],
+    )
+}
+
+fn long_lists(rt: &LibcRuntime) -> io::Result<()> {
+    let long = [to(A, 0); 257];
+    let under = bytes_of(rt.alloc(), 0, &[(0, 256)], &long[0..256])?;
+    tell(rt, "a list of 256", &under)?;
+    let over = bytes_of(rt.alloc(), 0, &[(0, 257)], &long)?;
+    tell(rt, "a list of 257", &over)
 }
 
 fn steps(rt: &LibcRuntime) -> io::Result<()> {
     let fork = [(0, 1), (1, 0)];
     let both = [(0, 1), (1, 1)];
     let gap = [(0, 1), (2, 1)];
-    tried(rt, "event 63", 0, &[(0, 1)], &[to(63, 0)])?;
-    tried(rt, "event 64", 0, &[(0, 1)], &[to(64, 0)])?;
-    tried(rt, "target is the last", 0, &fork, &[to(A, 1)])?;
-    tried(rt, "target past the last", 0, &fork, &[to(A, 2)])?;
-    tried(rt, "tick to an end", 0, &fork, &[to(1, 1)])?;
-    tried(rt, "tick to no end", 0, &both, &[to(1, 1), to(A, 0)])?;
-    tried(rt, "a gap", 0, &gap, &[to(A, 1), to(A, 1), to(A, 0)])?;
-    tried(rt, "64 in a gap", 0, &gap, &[to(A, 1), to(64, 1), to(A, 0)])?;
-    tried(
+    tell_each(
         rt,
-        "tick in a gap",
-        0,
-        &gap,
-        &[to(A, 1), to(1, 1), to(A, 0)],
+        &[
+            case("event 63", 0, &[(0, 1)], &[to(63, 0)]),
+            case("event 64", 0, &[(0, 1)], &[to(64, 0)]),
+            case("target is the last", 0, &fork, &[to(A, 1)]),
+            case("target past the last", 0, &fork, &[to(A, 2)]),
+            case("tick to an end", 0, &fork, &[to(1, 1)]),
+            case("tick to no end", 0, &both, &[to(1, 1), to(A, 0)]),
+            case("a gap", 0, &gap, &[to(A, 1), to(A, 1), to(A, 0)]),
+            case("64 in a gap", 0, &gap, &[to(A, 1), to(64, 1), to(A, 0)]),
+            case("tick in a gap", 0, &gap, &[to(A, 1), to(1, 1), to(A, 0)]),
+            case("wrong step, wrong pair", 0, &[(0, 2)], &[to(64, 0)]),
+        ],
     )?;
-    tried(rt, "wrong step, wrong pair", 0, &[(0, 2)], &[to(64, 0)])?;
     let spare = [0, 1, 0, 0, 0, 0, 0, 1, 0, 0, 0, 0, 0, 0, 0, 1, 2, 1, 0, 0];
     tell(rt, "spare byte", &spare)
 }
 
 fn normal(rt: &LibcRuntime) -> io::Result<()> {
     let both = [(0, 1), (1, 1)];
-    tried(rt, "tau at state 0", 0, &[(0, 1)], &[to(0, 0)])?;
-    tried(rt, "tau at state 1", 0, &both, &[to(A, 1), to(0, 0)])?;
-    tried(rt, "tau in a gap", 0, &[(1, 1)], &[to(0, 0), to(A, 0)])?;
-    tried(rt, "twice at 0", 0, &[(0, 2)], &[to(A, 0), to(A, 0)])?;
     let apart = [to(A, 0), to(A, 1), to(63, 1), to(A, 1)];
-    tried(rt, "twice at 1", 0, &[(0, 1), (1, 3)], &apart)?;
-    tried(rt, "once at each", 0, &both, &[to(A, 1), to(A, 0)])?;
-    tried(rt, "again in a gap", 0, &[(0, 1)], &[to(A, 0), to(A, 0)])
+    tell_each(
+        rt,
+        &[
+            case("tau at state 0", 0, &[(0, 1)], &[to(0, 0)]),
+            case("tau at state 1", 0, &both, &[to(A, 1), to(0, 0)]),
+            case("tau in a gap", 0, &[(1, 1)], &[to(0, 0), to(A, 0)]),
+            case("twice at 0", 0, &[(0, 2)], &[to(A, 0), to(A, 0)]),
+            case("twice at 1", 0, &[(0, 1), (1, 3)], &apart),
+            case("once at each", 0, &both, &[to(A, 1), to(A, 0)]),
+            case("again in a gap", 0, &[(0, 1)], &[to(A, 0), to(A, 0)]),
+        ],
+    )
 }
 
 fn entry(rt: &LibcRuntime, step: Option<Step>) -> io::Result<()> {
@@ -200,6 +228,7 @@ fn refused(rt: &LibcRuntime) -> io::Result<()> {
 fn main(rt: LibcRuntime) -> io::Result<()> {
     lengths(&rt)?;
     pairs(&rt)?;
+    long_lists(&rt)?;
     steps(&rt)?;
     normal(&rt)?;
     reads(&rt)?;
