@@ -46,7 +46,10 @@ fn space(line: &[u8]) -> usize
 pub fn read_line(line: &[u8], place: usize) -> Result<Asked, Fault>
     ensures { λ r. ⌜ ReadLine (now (line .entry)) place r ⌝ }
 {
-    let bad = Fault { refusal: Refusal::ScriptLine, place };
+    let bad = Fault {
+        refusal: Refusal::ScriptLine,
+        place,
+    };
     let at = space(line);
     if at >= line.len() {
         return Err(bad);

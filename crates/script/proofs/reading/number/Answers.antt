@@ -20,10 +20,11 @@ pub loop-b-again : need.loop-b-again
 loop-b-again c =
     let ds : List ℕ = c .args .digits .now in
     let i : ℕ = c .loop-b .b-index in
-    let lt : i < length ds = omega arith in
-    (sym (value-more (c .loop-b .n) ds i lt) ∙ c .loop-b .inv .0,
-     omega arith,
-     below-more (λ k. Digit (getD ds k 0)) i (c .loop-b .inv .2) (omega arith, omega arith))
+    let lt : i < length ds = omega arith in (
+      sym (value-more (c .loop-b .n) ds i lt) ∙ c .loop-b .inv .0,
+      omega arith,
+      below-more (λ k. Digit (getD ds k 0)) i (c .loop-b .inv .2) (omega arith, omega arith),
+    )
 
 pub returns : need.returns
 returns c =
