@@ -12,6 +12,8 @@ use fault::Refusal;
 use first_seen::NumberSame;
 use first_seen::Same;
 
+const START: u16 = 0;
+
 #[derive(Clone, Copy)]
 pub struct Register {
     limit: u16,
@@ -59,7 +61,7 @@ pub impl System for Register as RegisterSystem {
     ghost means = { λ m. register (m .limit) (m .up) (m .down) (m .iszero) };
 
     fn start(&self) -> u16 {
-        0
+        START
     }
 
     fn same(a: &u16, b: &u16) -> bool {
