@@ -1,6 +1,6 @@
 // Transition tables: bytes that are checked once, taken up as a view, and read state by state.
 pub mod checking;
-pub mod fields;
+mod fields;
 pub mod normal;
 pub mod read;
 pub mod step;

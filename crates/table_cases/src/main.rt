@@ -8,18 +8,78 @@ use table::Table;
 use table::check;
 use table::check_normal;
 
-const A: u8 = 2;
-
-fn to(event: u8, target: u16) -> Step {
-    Step { event, target }
-}
+// A name, the start, each state's pair of offset and length, and the steps by event and target.
+static SAMPLES: [(&str, u16, &[(u32, u32)], &[(u8, u16)]); 27] = [
+    ("no states", 0, &[], &[]),
+    ("start is the last", 1, &[(0, 0), (0, 0)], &[]),
+    ("start past the last", 2, &[(0, 0), (0, 0)], &[]),
+    ("wrong start, wrong pair", 2, &[(0, 0), (0, 1)], &[]),
+    ("right start, wrong pair", 0, &[(0, 0), (0, 1)], &[]),
+    ("a list to the end", 0, &[(0, 1), (1, 1)], &[(2, 1), (3, 0)]),
+    (
+        "a list past the end",
+        0,
+        &[(0, 1), (1, 2)],
+        &[(2, 1), (3, 0)],
+    ),
+    (
+        "lists that overlap",
+        0,
+        &[(0, 2), (1, 1)],
+        &[(2, 1), (3, 0)],
+    ),
+    (
+        "an empty list inside",
+        0,
+        &[(0, 2), (1, 0)],
+        &[(2, 1), (3, 0)],
+    ),
+    (
+        "lists out of order",
+        0,
+        &[(1, 1), (0, 1)],
+        &[(2, 1), (3, 0)],
+    ),
+    ("event 63", 0, &[(0, 1)], &[(63, 0)]),
+    ("event 64", 0, &[(0, 1)], &[(64, 0)]),
+    ("target is the last", 0, &[(0, 1), (1, 0)], &[(2, 1)]),
+    ("target past the last", 0, &[(0, 1), (1, 0)], &[(2, 2)]),
+    ("tick to an end", 0, &[(0, 1), (1, 0)], &[(1, 1)]),
+    ("tick to no end", 0, &[(0, 1), (1, 1)], &[(1, 1), (2, 0)]),
+    ("a gap", 0, &[(0, 1), (2, 1)], &[(2, 1), (2, 1), (2, 0)]),
+    (
+        "64 in a gap",
+        0,
+        &[(0, 1), (2, 1)],
+        &[(2, 1), (64, 1), (2, 0)],
+    ),
+    (
+        "tick in a gap",
+        0,
+        &[(0, 1), (2, 1)],
+        &[(2, 1), (1, 1), (2, 0)],
+    ),
+    ("wrong step, wrong pair", 0, &[(0, 2)], &[(64, 0)]),
+    ("tau at state 0", 0, &[(0, 1)], &[(0, 0)]),
+    ("tau at state 1", 0, &[(0, 1), (1, 1)], &[(2, 1), (0, 0)]),
+    ("tau in a gap", 0, &[(1, 1)], &[(0, 0), (2, 0)]),
+    ("twice at 0", 0, &[(0, 2)], &[(2, 0), (2, 0)]),
+    (
+        "twice at 1",
+        0,
+        &[(0, 1), (1, 3)],
+        &[(2, 0), (2, 1), (63, 1), (2, 1)],
+    ),
+    ("once at each", 0, &[(0, 1), (1, 1)], &[(2, 1), (2, 0)]),
+    ("again in a gap", 0, &[(0, 1)], &[(2, 0), (2, 0)]),
+];
 
 // The bytes of a table: for each state where its steps begin and how many they are, then all steps.
 fn bytes_of(
     heap: Global,
     start: u16,
     pairs: &[(u32, u32)],
-    steps: &[Step],
+    steps: &[(u8, u16)],
 ) -> Result<Vec<u8>, AllocError> {
     let mut bytes = Vec::new(heap);
     bytes.extend_from_slice(&u16::try_from(pairs.len()).unwrap_or(0).to_be_bytes())?;
@@ -30,8 +90,8 @@ fn bytes_of(
         bytes.extend_from_slice(&pair.1.to_be_bytes())?;
     }
     for step in steps {
-        bytes.extend_from_slice(&[step.event, 0])?;
-        bytes.extend_from_slice(&step.target.to_be_bytes())?;
+        bytes.extend_from_slice(&[step.0, 0])?;
+        bytes.extend_from_slice(&step.1.to_be_bytes())?;
     }
     Ok(bytes)
 }
@@ -55,29 +115,17 @@ fn tell(rt: &LibcRuntime, name: &str, bytes: &[u8]) -> io::Result<()> {
     println!(rt, "")
 }
 
-#[derive(Clone, Copy)]
-struct Sample<'a> {
-    name: &'a str,
-    start: u16,
-    pairs: &'a [(u32, u32)],
-    steps: &'a [Step],
-}
-
-fn case<'a>(name: &'a str, start: u16, pairs: &'a [(u32, u32)], steps: &'a [Step]) -> Sample<'a> {
-    Sample {
-        name,
-        start,
-        pairs,
-        steps,
-    }
-}
-
-fn tell_each(rt: &LibcRuntime, cases: &[Sample]) -> io::Result<()> {
-    for case in cases {
-        let bytes = bytes_of(rt.alloc(), case.start, case.pairs, case.steps)?;
-        tell(rt, case.name, &bytes)?;
+fn tell_samples(rt: &LibcRuntime) -> io::Result<()> {
+    for sample in &SAMPLES {
+        let bytes = bytes_of(rt.alloc(), sample.1, sample.2, sample.3)?;
+        tell(rt, sample.0, &bytes)?;
     }
     Ok(())
+}
+
+fn spare_byte(rt: &LibcRuntime) -> io::Result<()> {
+    let spare = [0, 1, 0, 0, 0, 0, 0, 1, 0, 0, 0, 0, 0, 0, 0, 1, 2, 1, 0, 0];
+    tell(rt, "spare byte", &spare)
 }
 
 // A table of one state without steps, and zeros to the end, which its head tells as steps of a gap.
@@ -106,71 +154,12 @@ fn lengths(rt: &LibcRuntime) -> io::Result<()> {
     padded(rt, "1048580 bytes", 1048580, 262141)
 }
 
-fn pairs(rt: &LibcRuntime) -> io::Result<()> {
-    let two = [to(A, 1), to(3, 0)];
-    tell_each(
-        rt,
-        &[
-            case("no states", 0, &[], &[]),
-            case("start is the last", 1, &[(0, 0), (0, 0)], &[]),
-            case("start past the last", 2, &[(0, 0), (0, 0)], &[]),
-            case("wrong start, wrong pair", 2, &[(0, 0), (0, 1)], &[]),
-            case("right start, wrong pair", 0, &[(0, 0), (0, 1)], &[]),
-            case("a list to the end", 0, &[(0, 1), (1, 1)], &two),
-            case("a list past the end", 0, &[(0, 1), (1, 2)], &two),
-            case("lists that overlap", 0, &[(0, 2), (1, 1)], &two),
-            case("an empty list inside", 0, &[(0, 2), (1, 0)], &two),
-            case("lists out of order", 0, &[(1, 1), (0, 1)], &two),
-        ],
-    )
-}
-
 fn long_lists(rt: &LibcRuntime) -> io::Result<()> {
-    let long = [to(A, 0); 257];
+    let long = [(2, 0); 257];
     let under = bytes_of(rt.alloc(), 0, &[(0, 256)], &long[0..256])?;
     tell(rt, "a list of 256", &under)?;
     let over = bytes_of(rt.alloc(), 0, &[(0, 257)], &long)?;
     tell(rt, "a list of 257", &over)
-}
-
-fn steps(rt: &LibcRuntime) -> io::Result<()> {
-    let fork = [(0, 1), (1, 0)];
-    let both = [(0, 1), (1, 1)];
-    let gap = [(0, 1), (2, 1)];
-    tell_each(
-        rt,
-        &[
-            case("event 63", 0, &[(0, 1)], &[to(63, 0)]),
-            case("event 64", 0, &[(0, 1)], &[to(64, 0)]),
-            case("target is the last", 0, &fork, &[to(A, 1)]),
-            case("target past the last", 0, &fork, &[to(A, 2)]),
-            case("tick to an end", 0, &fork, &[to(1, 1)]),
-            case("tick to no end", 0, &both, &[to(1, 1), to(A, 0)]),
-            case("a gap", 0, &gap, &[to(A, 1), to(A, 1), to(A, 0)]),
-            case("64 in a gap", 0, &gap, &[to(A, 1), to(64, 1), to(A, 0)]),
-            case("tick in a gap", 0, &gap, &[to(A, 1), to(1, 1), to(A, 0)]),
-            case("wrong step, wrong pair", 0, &[(0, 2)], &[to(64, 0)]),
-        ],
-    )?;
-    let spare = [0, 1, 0, 0, 0, 0, 0, 1, 0, 0, 0, 0, 0, 0, 0, 1, 2, 1, 0, 0];
-    tell(rt, "spare byte", &spare)
-}
-
-fn normal(rt: &LibcRuntime) -> io::Result<()> {
-    let both = [(0, 1), (1, 1)];
-    let apart = [to(A, 0), to(A, 1), to(63, 1), to(A, 1)];
-    tell_each(
-        rt,
-        &[
-            case("tau at state 0", 0, &[(0, 1)], &[to(0, 0)]),
-            case("tau at state 1", 0, &both, &[to(A, 1), to(0, 0)]),
-            case("tau in a gap", 0, &[(1, 1)], &[to(0, 0), to(A, 0)]),
-            case("twice at 0", 0, &[(0, 2)], &[to(A, 0), to(A, 0)]),
-            case("twice at 1", 0, &[(0, 1), (1, 3)], &apart),
-            case("once at each", 0, &both, &[to(A, 1), to(A, 0)]),
-            case("again in a gap", 0, &[(0, 1)], &[to(A, 0), to(A, 0)]),
-        ],
-    )
 }
 
 fn entry(rt: &LibcRuntime, step: Option<Step>) -> io::Result<()> {
@@ -192,7 +181,7 @@ fn led(rt: &LibcRuntime, target: Option<u16>) -> io::Result<()> {
 }
 
 fn reads(rt: &LibcRuntime) -> io::Result<()> {
-    let steps = [to(0, 0), to(A, 1), to(3, 0), to(63, 0)];
+    let steps = [(0, 0), (2, 1), (3, 0), (63, 0)];
     let bytes = bytes_of(rt.alloc(), 1, &[(1, 2), (3, 1)], &steps)?;
     let table = Table::take_up(&bytes);
     let states = table.states();
@@ -218,7 +207,7 @@ fn refused(rt: &LibcRuntime) -> io::Result<()> {
     let start = table.start();
     println!(rt, "refused: {states} states, start {start}")?;
     entry(rt, table.step(0, 0))?;
-    let bytes = bytes_of(rt.alloc(), 0, &[(0, 1)], &[to(0, 0)])?;
+    let bytes = bytes_of(rt.alloc(), 0, &[(0, 1)], &[(0, 0)])?;
     let silent = Table::take_up(&bytes);
     entry(rt, silent.step(0, 0))?;
     let normal = NormalTable::take_up(&bytes);
@@ -227,10 +216,9 @@ fn refused(rt: &LibcRuntime) -> io::Result<()> {
 
 fn main(rt: LibcRuntime) -> io::Result<()> {
     lengths(&rt)?;
-    pairs(&rt)?;
+    tell_samples(&rt)?;
     long_lists(&rt)?;
-    steps(&rt)?;
-    normal(&rt)?;
+    spare_byte(&rt)?;
     reads(&rt)?;
     refused(&rt)
 }

@@ -5,6 +5,12 @@ use Rattle.table.proofs.Bare.{bare-sized, bare-pairs, bare-formed, bare-ended}
 use Rattle.table.proofs.Taking.{taken-whole, taken-bare}
 use Rattle.table.proofs.view.Table.take_up.Needs as need
 
+pub returns-then-is-table : need.returns-then-is-table
+returns-then-is-table c = taken-whole (table-rules (c .args .bytes .now)) (c .args .bytes .now) (c .is-table .result) (c .is-table .ensures) (c .if-is-table .taken)
+
+pub returns : need.returns
+returns c = taken-bare (table-rules (c .args .bytes .now)) (c .args .bytes .now) (c .is-table .result) (c .is-table .ensures) (c .if-is-table .left)
+
 pub ghost-result : need.ghost-result
 ghost-result c =
     let m = c .is-table .ensures .0 (c .if-is-table .taken) in
@@ -12,9 +18,3 @@ ghost-result c =
 
 pub ghost-result-2 : need.ghost-result-2
 ghost-result-2 c = (bare-sized, (bare-pairs, (bare-formed, (bare-ended, tt))))
-
-pub returns-then-is-table : need.returns-then-is-table
-returns-then-is-table c = taken-whole (table-rules (c .args .bytes .now)) (c .args .bytes .now) (c .is-table .result) (c .is-table .ensures) (c .if-is-table .taken)
-
-pub returns : need.returns
-returns c = taken-bare (table-rules (c .args .bytes .now)) (c .args .bytes .now) (c .is-table .result) (c .is-table .ensures) (c .if-is-table .left)
