@@ -3,6 +3,7 @@ pub mod Sides
 pub mod Counting
 pub mod Going
 pub mod Slots
+pub mod Answered
 pub mod Interned
 pub mod Noted
 pub mod Explored
