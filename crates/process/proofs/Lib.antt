@@ -9,5 +9,7 @@ pub mod Joining
 pub mod Pigeon
 pub mod Closing
 pub mod Knowing
+pub mod Loading
 pub mod Recalling
+pub mod Listing
 pub mod Exploring

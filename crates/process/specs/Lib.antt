@@ -6,4 +6,6 @@ pub mod Slots
 pub mod Answered
 pub mod Interned
 pub mod Noted
+pub mod Loaded
+pub mod Listed
 pub mod Explored
