@@ -19,6 +19,7 @@ use Rattle.model.specs.Rows.{PartIn, Fits, AllFit}
 use Rattle.model.specs.File.{events, masks, rows, definitions, kindAt, argumentAt, leftAt, rightAt, opAt, partField, rowFrom, rowAt, rowsOf}
 use Rattle.model.specs.Rules.{FieldsOk, Shaped, RowOk, file-rules, settle-rules}
 use Rattle.model.specs.Sound.{Few, LeftBefore, RightBefore, Visible, Known, Named, Lower, Facts, empty-file}
+use Rattle.model.proofs.Apart.{bytes-same}
 use Rattle.model.proofs.Formed.{row-fits, rows-length, rows-at}
 
 -- an operator read from a row holds the row's own fields
@@ -91,7 +92,7 @@ facts-formed b m =
       visible = λ i l a e. prefix-at b i (ok i l) a e .0;
       known = λ i l a e. prefix-at b i (ok i l) a e .1;
       named = λ i l d e. name-at b i (ok i l) d e;
-      apart = λ i l j h. m .1 .1 .1 .1 .1 .0 i l j (h .0) (h .1);
+      apart = λ i l j h. let g = h .0 in m .1 .1 .1 .1 .1 .0 i l j g (bytes-same b j i (ok j (omega arith)) (ok i l) (h .1));
       low = m .1 .1 .1 .1 .1 .1 .0;
       bodied = m .1 .1 .1 .1 .1 .1 .1 .0;
     }

@@ -1,3 +1,5 @@
+pub mod Sameness
+pub mod Apart
 pub mod Denoted
 pub mod Formed
 pub mod Tallness

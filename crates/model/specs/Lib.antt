@@ -1,6 +1,7 @@
 pub mod Ops
 pub mod Terms
 pub mod Rows
+pub mod Alike
 pub mod File
 pub mod Rules
 pub mod Tall

@@ -8,7 +8,7 @@ use Rattle.model.specs.declared.op.Op.the-variants.{Prefix, Name}
 use Rattle.model.specs.declared.op.Use.the-variants.{Part}
 use Rattle.model.specs.Ops.{shape}
 use Rattle.model.specs.Terms.{Open, height}
-use Rattle.model.specs.File.{events, masks, rows, definitions, definitionAt, rowBytes, rowAt, process, body}
+use Rattle.model.specs.File.{events, masks, rows, definitions, definitionAt, rowAt, process, body}
 use Rattle.model.specs.Rules.{file-rules, settle-rules}
 
 -- how many of each there are
@@ -34,7 +34,7 @@ Named b = (i : ℕ) → i < rows b → (d : ℕ) → rowAt b i .op ≡ Name d �
 
 -- no row repeats an earlier one
 abbrev pub Apart : List ℕ → Type 0
-Apart b = (i : ℕ) → i < rows b → (j : ℕ) → (j < i) × (rowBytes b j ≡ rowBytes b i) → ⊥
+Apart b = (i : ℕ) → i < rows b → (j : ℕ) → (j < i) × (rowAt b j ≡ rowAt b i) → ⊥
 
 -- no process is higher than 64
 abbrev pub Low : List ℕ → Type 0

@@ -1,4 +1,5 @@
 // The model file: what is well formed, the models made from it, and what they hold.
+pub mod alike;
 pub mod checks;
 pub mod drafted;
 pub mod file;
@@ -7,6 +8,8 @@ pub mod models;
 pub mod op;
 mod opens;
 
+pub use alike::RowBlank;
+pub use alike::RowSame;
 pub use checks::check;
 pub use drafted::Drafted;
 pub use drafted::Settled;

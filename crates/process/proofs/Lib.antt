@@ -1,0 +1,15 @@
+pub mod Stored
+pub mod Outs
+pub mod Falls
+pub mod Slotted
+pub mod Interning
+pub mod Taking
+pub mod Siding
+pub mod Joining
+pub mod Pigeon
+pub mod Closing
+pub mod Knowing
+pub mod Loading
+pub mod Recalling
+pub mod Listing
+pub mod Exploring

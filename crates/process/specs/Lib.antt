@@ -1,0 +1,11 @@
+pub mod Rows
+pub mod Sides
+pub mod Counting
+pub mod Going
+pub mod Slots
+pub mod Answered
+pub mod Interned
+pub mod Noted
+pub mod Loaded
+pub mod Listed
+pub mod Explored

@@ -1,0 +1,4 @@
+pub mod Members
+pub mod Derived
+pub mod Falling
+pub mod Unique
