@@ -1,0 +1,3 @@
+pub mod Afters
+pub mod Closes
+pub mod Growth

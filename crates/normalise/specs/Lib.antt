@@ -1,0 +1,3 @@
+pub mod Closure
+pub mod Law
+pub mod Units
