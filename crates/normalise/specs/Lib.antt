@@ -1,3 +1,4 @@
 pub mod Closure
 pub mod Law
 pub mod Units
+pub mod Nodes
