@@ -5,3 +5,6 @@ pub mod Explores
 pub mod Noting
 pub mod Walks
 pub mod Pigeons
+pub mod Bytewise
+pub mod Frames
+pub mod Counts
