@@ -1,0 +1,10 @@
+pub mod Afters
+pub mod Closes
+pub mod Growth
+pub mod Explores
+pub mod Noting
+pub mod Walks
+pub mod Pigeons
+pub mod Bytewise
+pub mod Frames
+pub mod Counts

@@ -1,0 +1,9 @@
+// A table becomes a normal table with the same traces: its nodes are sets of states closed under tau.
+pub mod closing;
+pub mod nodes;
+pub mod puts;
+pub mod unit;
+pub mod writing;
+
+pub use closing::after;
+pub use closing::opened;
