@@ -11,6 +11,8 @@ use systems::Fault;
 use systems::Register;
 use systems::RegisterNormal;
 use systems::RegisterSystem;
+use systems::Table;
+use systems::TableSystem;
 
 type Row = Work<u16, u16>;
 
@@ -146,6 +148,91 @@ fn audited(
     }
 }
 
+// Want of rows before and after a refused event in one unit, at the start pair.
+fn narrow(rt: &LibcRuntime, rows: &mut [Row], spec: &Register) -> io::Result<()> {
+    let Ok(late) = Register::new(3, 2, 3, 5) else {
+        return Ok(());
+    };
+    let Ok(early) = Register::new(3, 9, 3, 2) else {
+        return Ok(());
+    };
+    whole(rt, "no row, then a refused event", rows, 1, &late, spec)?;
+    whole(rt, "the same with a row more", rows, 2, &late, spec)?;
+    whole(rt, "a refused event, then no row", rows, 1, &early, spec)
+}
+
+// A table that goes by tau and then by event 2 for ever: a run's steps count tau.
+const QUIET: [u8; 44] = [
+    0,
+    3,
+    0,
+    0,
+    0,
+    0,
+    0,
+    3,
+    0,
+    0,
+    0,
+    0,
+    0,
+    0,
+    0,
+    1,
+    0,
+    0,
+    0,
+    1,
+    0,
+    0,
+    0,
+    1,
+    0,
+    0,
+    0,
+    2,
+    0,
+    0,
+    0,
+    1,
+    0,
+    0,
+    0,
+    1,
+    2,
+    0,
+    0,
+    2,
+    2,
+    0,
+    0,
+    2,
+];
+
+fn quiet(rt: &LibcRuntime, rows: &mut [Row]) -> io::Result<()> {
+    let design = Table::take_up(&QUIET);
+    let Ok(spec) = Register::new(1, 2, 3, 4) else {
+        return Ok(());
+    };
+    match decide(rows, &design, &spec) {
+        Ok(answer) => show(rt, "tau counted", answer),
+        Err(fault) => told(rt, "tau counted", fault),
+    }
+}
+
+// Limits in the thousands.
+fn high(rt: &LibcRuntime, rows: &mut [Row]) -> io::Result<()> {
+    let Ok(lower) = Register::new(3000, 2, 3, 4) else {
+        return Ok(());
+    };
+    let Ok(upper) = Register::new(3001, 2, 3, 4) else {
+        return Ok(());
+    };
+    whole(rt, "limit 3000 against 3001", rows, 4096, &lower, &upper)?;
+    whole(rt, "limit 3001 against 3000", rows, 4096, &upper, &lower)?;
+    whole(rt, "limit 3000 in 3000 rows", rows, 3000, &lower, &upper)
+}
+
 fn main(rt: LibcRuntime) -> io::Result<()> {
     let mut rows = [BLANK; 4096];
     let mut other = [BLANK; 7];
@@ -155,73 +242,16 @@ fn main(rt: LibcRuntime) -> io::Result<()> {
     let Ok(four) = Register::new(4, 2, 3, 4) else {
         return Ok(());
     };
-    let Ok(zero_renamed) = Register::new(3, 2, 3, 5) else {
-        return Ok(());
-    };
-    let Ok(up_renamed) = Register::new(3, 9, 3, 2) else {
-        return Ok(());
-    };
-    let Ok(high) = Register::new(3000, 2, 3, 4) else {
-        return Ok(());
-    };
-    let Ok(higher) = Register::new(3001, 2, 3, 4) else {
-        return Ok(());
-    };
     whole(&rt, "limit 3 against 4", &mut rows, 4096, &three, &four)?;
     audited(&rt, &mut rows, &three, &four)?;
     whole(&rt, "limit 4 against 3", &mut rows, 4096, &four, &three)?;
     whole(&rt, "no rows", &mut rows, 0, &three, &four)?;
     whole(&rt, "just enough rows", &mut rows, 4, &three, &four)?;
     whole(&rt, "a row too few", &mut rows, 3, &three, &four)?;
-    whole(
-        &rt,
-        "no row, then a refused event",
-        &mut rows,
-        1,
-        &zero_renamed,
-        &four,
-    )?;
-    whole(
-        &rt,
-        "the same with a row more",
-        &mut rows,
-        2,
-        &zero_renamed,
-        &four,
-    )?;
-    whole(
-        &rt,
-        "a refused event, then no row",
-        &mut rows,
-        1,
-        &up_renamed,
-        &four,
-    )?;
+    narrow(&rt, &mut rows, &four)?;
     by_ones(&rt, &mut rows, &three, &four)?;
     by_ones(&rt, &mut rows, &four, &three)?;
     in_between(&rt, &mut rows, &mut other, &three, &four)?;
-    whole(
-        &rt,
-        "limit 3000 against 3001",
-        &mut rows,
-        4096,
-        &high,
-        &higher,
-    )?;
-    whole(
-        &rt,
-        "limit 3001 against 3000",
-        &mut rows,
-        4096,
-        &higher,
-        &high,
-    )?;
-    whole(
-        &rt,
-        "limit 3000 in 3000 rows",
-        &mut rows,
-        3000,
-        &high,
-        &higher,
-    )
+    quiet(&rt, &mut rows)?;
+    high(&rt, &mut rows)
 }
