@@ -8,3 +8,7 @@ pub mod Pigeons
 pub mod Bytewise
 pub mod Frames
 pub mod Counts
+pub mod Finals
+pub mod Whole
+pub mod Building
+pub mod Answering

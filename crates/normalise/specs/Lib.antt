@@ -5,3 +5,4 @@ pub mod Nodes
 pub mod Puts
 pub mod Rooms
 pub mod Writing
+pub mod Made

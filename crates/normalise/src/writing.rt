@@ -1,15 +1,19 @@
 // Writing the normal table of the nodes to a buffer of zeros.
-ghost use Prim.Native.Nat.{_+_, _*_, _<_, _≤_};
-ghost use lib.ListN.{length};
+ghost use Prim.Native.Nat.{ℕ, _+_, _*_, _<_, _≤_};
+ghost use mathlib.Core.Path.{_≡_};
+ghost use lib.ListN.{getD, length};
 ghost use Rattle.table.specs.Form.{states, start};
 ghost use Rattle.systems.specs.Meaning.{Steps};
 ghost use Rattle.systems.specs.Tables.{table-lts};
+ghost use Rattle.normalise.specs.Made.{TableWritten};
 ghost use Rattle.normalise.specs.Nodes.{Found};
 ghost use Rattle.normalise.specs.Writing.{Led, Head, Written, ListWritten, AllWritten};
 use crate::closing::advance;
 use crate::closing::any_of;
 use crate::puts::put_pair;
 use crate::puts::put_step;
+use crate::puts::put_u16;
+use crate::puts::put_u32;
 use first_seen::find;
 use sets::StateSet;
 use sets::StateSetSame;
@@ -86,4 +90,27 @@ pub(crate) fn write_lists(
         steps += count;
     }
     Some(steps)
+}
+
+// Writes the table of all nodes to zeros, and tells its size, or nothing for want of room.
+pub(crate) fn write_table(
+    table: &Table,
+    rows: &[StateSet],
+    len: usize,
+    out: &mut [u8],
+) -> Option<usize>
+    requires small { ⌜ states (now (now table .bytes)) ≤ 256 ⌝ }
+    requires few { ⌜ len ≤ 65535 ⌝ }
+    requires nodes { ⌜ Found (Steps (table-lts (now (now table .bytes)))) (start (now (now table .bytes))) (now rows) len len 1 ⌝ }
+    requires zero { ⌜ ((j : ℕ) → getD (now out) j 0 ≡ 0) ⌝ }
+    ensures { λ r. ⌜ TableWritten (Steps (table-lts (now (now (table .entry) .bytes)))) (start (now (now (table .entry) .bytes))) (now (rows .entry)) len (length (now (out .entry))) (now (out .exit)) r ⌝ }
+{
+    let room = out.len().min(LARGEST);
+    if 8 + 8 * len > room {
+        return None;
+    }
+    put_u16(out, 0, len as u16);
+    let steps = write_lists(table, rows, len, out)?;
+    put_u32(out, 4, steps as u32);
+    Some(8 + 8 * len + 4 * steps)
 }
