@@ -12,4 +12,5 @@ pub mod Knowing
 pub mod Loading
 pub mod Recalling
 pub mod Listing
-pub mod Exploring
+pub mod Meeting
+pub mod Searching

@@ -8,4 +8,5 @@ pub mod Interned
 pub mod Noted
 pub mod Loaded
 pub mod Listed
+pub mod Ordered
 pub mod Explored

@@ -1,7 +1,9 @@
 // The steps of the terms of a settled model, over term rows that are kept in the order first seen.
 mod build;
+mod explore;
 pub mod list;
 mod load;
+mod order;
 pub mod rule;
 pub mod slots;
 pub mod step;
