@@ -14,3 +14,5 @@ pub mod Recalling
 pub mod Listing
 pub mod Meeting
 pub mod Searching
+pub mod Exploring
+pub mod Sizing

@@ -5,6 +5,7 @@ pub mod list;
 mod load;
 mod order;
 pub mod rule;
+mod size;
 pub mod slots;
 pub mod step;
 mod steps;
