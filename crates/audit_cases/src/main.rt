@@ -1,4 +1,6 @@
 // The audit at work on registers, tables and tables side by side: what it accepts, and each of its refusals.
+#![tactic(auto)]
+
 ghost use Rattle.std.specs.Prelude.{◌≡◌, is_ok, Err};
 ghost use Rattle.systems.specs.Faults.{fault, AuditStart};
 

@@ -1,4 +1,6 @@
 // Two tables side by side under a mask of events.
+#![tactic(auto)]
+
 mod scan;
 pub mod two;
 

@@ -1,4 +1,6 @@
 // The closed list of refusals, what a refusal tells, and how a check finds the first one.
+#![tactic(auto)]
+
 pub mod condition;
 pub mod refusal;
 pub mod words;

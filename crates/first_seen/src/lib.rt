@@ -1,4 +1,6 @@
 // Lists of first-seen elements over lent rows, and guards that leave lent rows blank.
+#![tactic(auto)]
+
 pub mod guard;
 pub mod kinds;
 pub mod list;

@@ -1,8 +1,8 @@
 -- The eight bytes of a well-formed row are told by the row that they stand for, so rows with different bytes
 -- are different rows.
 use Rattle.std.proofs.Common.{◌≡◌, ℕ, zero, suc, ◌+◌, ◌*◌, ◌^◌, ◌<◌, List, Some, None, Option, sym, refl, ap, ◌∙◌, subst, add_assoc, arith}
-use Rattle.bytes.specs.Reads.{be}
-use Rattle.bytes.proofs.Parts.{be_two, be_four, be_eight}
+use Rattle.lent_bytes.specs.Reads.{be}
+use Rattle.lent_bytes.proofs.Parts.{be_two, be_four, be_eight}
 use Rattle.model.specs.declared.op.Op.{Op}
 use Rattle.model.specs.declared.op.Op.TheVariants.{Stop, Skip, Omega, Prefix, External, Internal, Sequence, Parallel, Hide, Interrupt, Name}
 use Rattle.model.specs.declared.op.Row.{Row}

@@ -1,6 +1,6 @@
 -- What a well-formed file's bytes are known to be; the file without rows has it all, since it has no rows.
 use Rattle.std.proofs.Common.{◌≡◌, ℕ, zero, suc, ◌+◌, ◌*◌, ◌/◌, ◌<◌, ◌≤◌, List, length, get_or, Some, None, Option, sym, refl, ap, ◌∙◌, subst, arith, lit<, lit≤}
-use Rattle.bytes.specs.Reads.{be}
+use Rattle.lent_bytes.specs.Reads.{be}
 use Rattle.fault.specs.Judged.{Everywhere, Meets}
 use Rattle.model.specs.declared.op.Op.{Op}
 use Rattle.model.specs.declared.op.Op.TheVariants.{Stop, Skip, Omega, Prefix, External, Internal, Sequence, Parallel, Hide, Interrupt, Name}

@@ -4,8 +4,8 @@ use Rattle.std.proofs.Common.{◌≡◌, ℕ, ◌^◌, ◌<◌, ◌≤◌, Bool,
 use lib.Bits.{bit_or}
 use Rattle.std.proofs.lemmas.Bool.Decides.{Decides-at, Decides-like, Decides-or}
 use Rattle.std.proofs.lemmas.Bool.{lt-ltb, cond-true, both_ways}
-use Rattle.bytes.specs.Bits.{bit}
-use Rattle.bytes.proofs.Bitwise.{bit_zero, bit_or_lem, bit_power}
+use Rattle.lent_bytes.specs.Bits.{bit}
+use Rattle.lent_bytes.proofs.Bitwise.{bit_zero, bit_or_lem, bit_power}
 use Rattle.model.specs.declared.op.Op.{Op}
 use Rattle.model.specs.declared.op.Op.TheVariants.{Stop, Skip, Omega, Prefix, External, Internal, Sequence, Parallel, Hide, Interrupt, Name}
 use Rattle.model.specs.declared.op.Use.{Use}

@@ -1,7 +1,7 @@
 -- The bytes of a model file: its sections, masks, rows and definitions. Assumes nothing.
 use Rattle.std.specs.Prelude.{◌≡◌, ℕ, zero, suc, ◌+◌, ◌*◌, ◌/◌, ◌%◌, ◌^◌, ◌<◌, ◌≤◌, List, [], ◌∷◌, map, length, Some, None, Option, slice_index}
 use Rattle.std.specs.List.{range_with_len}
-use Rattle.bytes.specs.Reads.{be}
+use Rattle.lent_bytes.specs.Reads.{be}
 use Rattle.model.specs.declared.op.Op.{Op}
 use Rattle.model.specs.declared.op.Row.{Row}
 use Rattle.model.specs.declared.op.Use.{Use}

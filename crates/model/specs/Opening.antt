@@ -1,6 +1,6 @@
 -- The open definitions of a row as the bits of a number. Assumes nothing.
 use Rattle.std.specs.Prelude.{◌≡◌, ℕ, ◌^◌, ◌<◌, cond, List, Decides, bit_or, nat_lt, slice_index}
-use Rattle.bytes.specs.Bits.{bit}
+use Rattle.lent_bytes.specs.Bits.{bit}
 use Rattle.model.specs.declared.op.Op.{Op}
 use Rattle.model.specs.declared.op.Op.TheVariants.{Stop, Skip, Omega, Prefix, External, Internal, Sequence, Parallel, Hide, Interrupt, Name}
 use Rattle.model.specs.Terms.{Open, Term, none, node}

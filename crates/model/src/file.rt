@@ -3,7 +3,7 @@ ghost use Rattle.std.specs.Prelude.{◌≡◌, ℕ, ◌+◌, ◌*◌, ◌^◌, �
 ghost use Rattle.model.specs.File.{events as eventsOf, offset, masks as masksIn, rows as rows_in, definitions as definitionsIn, mask_at_lem, definition_at_lem, row_place_lem, row_bytes_lem, op_at_lem, left_at_lem, right_at_lem, spare_at_lem, argument_at_lem, part_field_lem, row_with_lem, row_at};
 
 use crate::op::{Op, Row, Use};
-use bytes::{byte_at, u16_at, u32_at, u64_at};
+use lent_bytes::{byte_at, u16_at, u32_at, u64_at};
 
 // The bytes of a model file, checked or not.
 #[derive(Clone, Copy)]

@@ -7,7 +7,7 @@ ghost use Rattle.model.specs.Tall.{height_field};
 
 use crate::file::File;
 use crate::op::Use;
-use bytes::byte_at;
+use lent_bytes::byte_at;
 use fault::{Fault, Refusal};
 
 // The height that a field adds, by the heights of the rows before.

@@ -1,4 +1,6 @@
 // The model file: what is well formed, the models made from it, and what they hold.
+#![tactic(auto)]
+
 pub mod alike;
 pub mod checks;
 pub mod drafted;

@@ -1,7 +1,7 @@
 // Taking up a file as a drafted model, and a drafted model as a settled one.
 ghost use Rattle.std.specs.Prelude.{◌≡◌, ℕ, ◌<◌, ◌≤◌, false};
 ghost use Rattle.fault.specs.Judged.{Exact, Passes};
-ghost use Rattle.bytes.specs.Bits.{bit};
+ghost use Rattle.lent_bytes.specs.Bits.{bit};
 ghost use Rattle.model.specs.File.{rows, process};
 ghost use Rattle.model.specs.Models.{drafted_file, settled_file};
 ghost use Rattle.model.specs.Opening.{OpenedAs};

@@ -1,4 +1,6 @@
 // Model files on both sides of each limit, each refusal at a first, a middle and a last place.
+#![tactic(auto)]
+
 mod build;
 
 use build::{Parts, padded, patched};

@@ -1,7 +1,7 @@
 -- A model as text: its alphabet, masks, rows and definitions in the usual notation of CSP. Assumes nothing.
 use Rattle.std.specs.Prelude.{◌≡◌, ℕ, ◌+◌, ◌%◌, ◌^◌, Bool, true, false, cond, List, [], ◌∷◌, ◌++◌, codes, decimal, ◌==◌}
 use Rattle.std.specs.List.{range_with_len, flat_map}
-use Rattle.bytes.specs.Bits.{bit}
+use Rattle.lent_bytes.specs.Bits.{bit}
 use Rattle.fault.specs.declared.refusal.Fault.{Fault}
 use Rattle.fault.specs.Judged.{Meets, FirstRefused}
 use Rattle.fault.specs.Listing.{number}

@@ -1,7 +1,7 @@
 -- A step or a pair that is written leaves what was written before, so the lists grow step by step and node by node.
 use Rattle.std.proofs.Common.{◌≡◌, ℕ, zero, suc, ◌+◌, ◌*◌, ◌<◌, ◌≤◌, ◌⊎◌, List, length, get_or, sym, refl, ap, ◌∙◌, subst, ap₂, inl, inr, ⊎_elim, add-zero, add-one, arith}
 use Rattle.std.proofs.lemmas.Bool.{cases_eq, cases_lt}
-use Rattle.bytes.specs.Reads.{be}
+use Rattle.lent_bytes.specs.Reads.{be}
 use Rattle.table.specs.Form.{states, start, offset, size, floor}
 use Rattle.sets.specs.declared.state_set.StateSet.{StateSet}
 use Rattle.normalise.specs.Closure.{Rel, next}

@@ -2,7 +2,7 @@
 use Rattle.std.proofs.Common.{◌≡◌, ℕ, zero, suc, ◌+◌, ◌*◌, ◌<◌, ◌≤◌, min, ◌⊎◌, List, length, get_or, take, sym, refl, ap, ◌∙◌, subst, inl, inr, ⊎_elim, arith}
 use Rattle.std.proofs.lemmas.List.{get_or-take, length-take}
 use Rattle.std.proofs.lemmas.Bool.{cases_lt, cases_order}
-use Rattle.bytes.specs.Reads.{be}
+use Rattle.lent_bytes.specs.Reads.{be}
 use Rattle.table.specs.Form.{states, start, all_steps, offset, size, floor}
 use Rattle.sets.specs.declared.state_set.StateSet.{StateSet}
 use Rattle.sets.specs.Members.{In}

@@ -1,6 +1,6 @@
 -- What a write to a buffer changes: one number of some bytes, a pair of a table, or a step of a table. Assumes nothing.
 use Rattle.std.specs.Prelude.{◌≡◌, ℕ, ◌+◌, ◌<◌, ◌≤◌, ◌⊎◌, List, length, slice_index, slice_index_or}
-use Rattle.bytes.specs.Reads.{be}
+use Rattle.lent_bytes.specs.Reads.{be}
 
 -- nothing but the n bytes from i on has changed
 pub record Kept (old new : List ℕ) (i n : ℕ) : Type 0 where

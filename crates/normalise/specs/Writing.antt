@@ -1,6 +1,6 @@
 -- The bytes of a normal table as they are written, node after node and event after event. Assumes nothing.
 use Rattle.std.specs.Prelude.{◌≡◌, ℕ, ◌+◌, ◌*◌, ◌<◌, ◌≤◌, min, List, length, Some, None, Option, slice_index}
-use Rattle.bytes.specs.Reads.{be}
+use Rattle.lent_bytes.specs.Reads.{be}
 use Rattle.table.specs.Form.{states, start, offset, size, floor}
 use Rattle.sets.specs.declared.state_set.StateSet.{StateSet}
 use Rattle.normalise.specs.Closure.{Rel, next}

@@ -1,4 +1,6 @@
 // A table becomes a normal table with the same traces: its nodes are sets of states closed under tau.
+#![tactic(auto)]
+
 pub mod closing;
 pub mod nodes;
 pub mod normal;

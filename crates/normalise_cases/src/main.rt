@@ -1,5 +1,7 @@
 // Tables normalised on both sides of each limit: what is answered, the nodes and their steps, and whether the
 // lent rows are blank then.
+#![tactic(auto)]
+
 use normalise::normalise;
 use sets::StateSet;
 use std::alloc::{AllocError, Global};

@@ -1,4 +1,6 @@
 // The steps of the terms of a settled model, over term rows that are kept in the order first seen.
+#![tactic(auto)]
+
 mod build;
 mod explore;
 pub mod list;

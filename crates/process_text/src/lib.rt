@@ -1,4 +1,6 @@
 // The steps of a row of a model as text.
+#![tactic(auto)]
+
 ghost use Rattle.std.specs.Prelude.{◌≡◌, ℕ, ◌+◌, ◌*◌, ◌<◌, ◌≤◌, min, ◌++◌, length, IfOk, vec_len, string_bytes, slice_index_or};
 ghost use Rattle.model.specs.Models.{settled_file};
 ghost use Rattle.model.specs.Rows.{blank};

@@ -1,4 +1,6 @@
 // A script's lines: reading two row numbers, and writing what came of them.
+#![tactic(auto)]
+
 pub mod reading;
 pub mod record;
 pub mod writing;

@@ -1,4 +1,6 @@
 // Lines that are read and lines that are written.
+#![tactic(auto)]
+
 use fault::{Fault, Refusal};
 use script::{Record, Verdict, model_line, read_line, record_line};
 use std::alloc::Global;

@@ -1,4 +1,6 @@
 // The search at work on registers: whole searches, budgets of 1, refused calls in between, and want of rows.
+#![tactic(auto)]
+
 use audit::audit;
 use search::{Advanced, Work, advance, begin, decide};
 use std::io;

@@ -1,5 +1,7 @@
 // Shows the model in design.model of the current folder, or why it is refused. With a row's number as its
 // argument, it shows the steps of that row's process after it.
+#![tactic(auto)]
+
 use model::Drafted;
 use model_text::show;
 use process_text::show_steps;

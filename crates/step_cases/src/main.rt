@@ -1,5 +1,7 @@
 // The steps of a process of each operator, with tau, tick and a visible event on each side; and processes that share
 // their parts so that reading them without memory would not end.
+#![tactic(auto)]
+
 use model::{Drafted, Op, Row};
 use process::{Workspace, list_steps};
 use std::alloc::{AllocError, Global};

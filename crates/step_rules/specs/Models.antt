@@ -1,6 +1,6 @@
 -- What the names and the mask numbers of a model's file stand for. Assumes nothing.
 use Rattle.std.specs.Prelude.{ℕ, cond, List, nat_lt}
-use Rattle.bytes.specs.Bits.{bit}
+use Rattle.lent_bytes.specs.Bits.{bit}
 use Rattle.model.specs.File.{masks, definitions, mask_at_lem, body}
 use Rattle.model.specs.Terms.{Term, none}
 use Rattle.step_rules.specs.Derives.{RuleSet, joint_termination, Env}

@@ -1,4 +1,6 @@
 // What a process can do: the step rules, and the ordered list of the steps that they give.
+#![tactic(auto)]
+
 ghost use Rattle.std.specs.Prelude.{◌≡◌};
 ghost use Rattle.model.specs.Models.{settled_file};
 ghost use Rattle.step_rules.specs.Cases.{CasesHold};

@@ -1,4 +1,6 @@
 // Systems by their meaning: a start and, for each state, a list of steps.
+#![tactic(auto)]
+
 pub mod register;
 pub mod system;
 pub mod tables;

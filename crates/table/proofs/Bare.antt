@@ -5,7 +5,7 @@ use Rattle.std.proofs.lemmas.List.{nil_from_length}
 use Rattle.std.proofs.lemmas.Bool.{cases_lt}
 use Rattle.fault.specs.First.{Below}
 use Rattle.fault.specs.Judged.{Everywhere}
-use Rattle.bytes.specs.Reads.{be}
+use Rattle.lent_bytes.specs.Reads.{be}
 use Rattle.table.specs.declared.step.Step.{Step}
 use Rattle.table.specs.Form.{states, start, all_steps, size, steps_of}
 use Rattle.table.specs.Rules.{Sized, Formed, Ended, PairOk, pair_rule, normal_rule}

@@ -2,7 +2,7 @@
 -- Assumes nothing.
 use Rattle.std.specs.Prelude.{ℕ, zero, suc, ◌+◌, ◌*◌, cond, List, [], map, nat_lt, slice_index}
 use Rattle.std.specs.List.{range_with_len}
-use Rattle.bytes.specs.Reads.{be}
+use Rattle.lent_bytes.specs.Reads.{be}
 use Rattle.table.specs.declared.step.Step.{Step}
 
 -- the head: how many states, which one is the start, how many steps

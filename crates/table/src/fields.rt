@@ -3,7 +3,7 @@ ghost use Rattle.std.specs.Prelude.{◌≡◌, ◌^◌, ◌<◌};
 ghost use Rattle.table.specs.Form.{states, start, all_steps, offset, size, floor, spare, step};
 
 use crate::step::Step;
-use bytes::{byte_at, u16_at, u32_at};
+use lent_bytes::{byte_at, u16_at, u32_at};
 
 pub(crate) fn states_of(bytes: &[u8]) -> u16
     ensures { result ≡ states bytes.now }

@@ -1,4 +1,6 @@
 // Transition tables: bytes that are checked once, taken up as a view, and read state by state.
+#![tactic(auto)]
+
 pub mod checking;
 mod fields;
 pub mod normal;

@@ -1,4 +1,6 @@
 // Transition tables on both sides of each limit: what the two checks answer, and what is read.
+#![tactic(auto)]
+
 use std::alloc::{AllocError, Global};
 use std::io;
 use table::{NormalTable, Step, Table, check, check_normal};

@@ -1,7 +1,7 @@
 use Rattle.std.proofs.Common.{◌≡◌, ℕ, ◌+◌, ◌*◌, ◌/◌, ◌%◌, ◌^◌, ◌<◌, arith}
 use Rattle.std.proofs.lemmas.Bool.{eqb-true, eq-eqb}
 use Rattle.std.proofs.lemmas.Nat.{pow_pos, div_below}
-use Rattle.bytes.proofs.Bitwise.{below_from_shift}
+use Rattle.lent_bytes.proofs.Bitwise.{below_from_shift}
 use Rattle.model.proofs.checks.within.Goals as goal
 
 pub returns-else-e-eq62 : goal.returns-else-e-eq62

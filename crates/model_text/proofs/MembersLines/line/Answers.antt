@@ -2,7 +2,7 @@
 use Rattle.std.proofs.Common.{◌≡◌, ℕ, ◌*◌, ◌%◌, ◌^◌, Bool, true, cond, eqb, List, [], ◌++◌, IfOk, string_bytes, codes, decimal, sym, refl, ap, ◌∙◌, subst}
 use Rattle.std.proofs.lemmas.Nat.{one_shl}
 use Rattle.std.proofs.lemmas.Bool.{cond-true, eq-eqb}
-use Rattle.bytes.specs.Bits.{bit}
+use Rattle.lent_bytes.specs.Bits.{bit}
 use Rattle.model_text.specs.Text.{member_text}
 use Rattle.model_text.proofs.MembersLines.line.Goals as goal
 

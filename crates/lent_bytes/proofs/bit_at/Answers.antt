@@ -1,8 +1,8 @@
 use Rattle.std.proofs.Common.{sym, refl, ◌∙◌, arith}
 use Rattle.std.proofs.lemmas.Bool.{le-ltb}
-use Rattle.bytes.specs.Bits.{bit}
-use Rattle.bytes.proofs.Bitwise.{bit_above}
-use Rattle.bytes.proofs.bit_at.Goals as goal
+use Rattle.lent_bytes.specs.Bits.{bit}
+use Rattle.lent_bytes.proofs.Bitwise.{bit_above}
+use Rattle.lent_bytes.proofs.bit_at.Goals as goal
 
 pub returns-then-place-lt64 : goal.returns-then-place-lt64
 unfolding bit

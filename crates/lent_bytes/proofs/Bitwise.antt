@@ -4,7 +4,7 @@ use native.Mathlib.Nat.{zero-div, div_self, div-eq_of_lt-le}
 use lib.Bits.{bit_or, or_step}
 use Rattle.std.proofs.lemmas.Nat.{pow_pos, pow-add, or_shr, pow_below, div-add-mod', mod_below, shl-shr, leading_top, div_below}
 use Rattle.std.proofs.lemmas.Bool.{cases_lt, cases_order, eqb-true, eq-eqb, ne_eqb, both_ways}
-use Rattle.bytes.specs.Bits.{bit}
+use Rattle.lent_bytes.specs.Bits.{bit}
 
 -- a number whose shift by k leaves nothing is below 2 ^ k
 pub below_from_shift : (n k : ℕ) → n / 2 ^ k ≡ 0 → n < 2 ^ k

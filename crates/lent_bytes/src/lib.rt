@@ -1,7 +1,9 @@
 // Big-endian numbers in lent bytes, and the bits of a number. Every read is total: past the end stand zeros.
+#![tactic(auto)]
+
 ghost use Rattle.std.specs.Prelude.{◌≡◌, slice_index};
-ghost use Rattle.bytes.specs.Bits.{bit};
-ghost use Rattle.bytes.specs.Reads.{be};
+ghost use Rattle.lent_bytes.specs.Bits.{bit};
+ghost use Rattle.lent_bytes.specs.Reads.{be};
 
 pub fn byte_at(bytes: &[u8], at: usize) -> u8
     ensures { result ≡ slice_index bytes.now at }

@@ -1,7 +1,7 @@
 use Rattle.std.proofs.Common.{◌≡◌, ℕ, ◌+◌, ◌-◌, ◌^◌, ◌<◌, min, List, length, ap, arith}
-use Rattle.bytes.specs.Reads.{be}
-use Rattle.bytes.proofs.Parts.{be_far, be_four}
-use Rattle.bytes.proofs.u32_at.Goals as goal
+use Rattle.lent_bytes.specs.Reads.{be}
+use Rattle.lent_bytes.proofs.Parts.{be_far, be_four}
+use Rattle.lent_bytes.proofs.u32_at.Goals as goal
 
 pub returns : goal.returns
 returns c =

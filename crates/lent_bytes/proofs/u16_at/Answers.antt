@@ -1,6 +1,6 @@
 use Rattle.std.proofs.Common.{◌≡◌, ℕ, ◌+◌, ◌-◌, ◌^◌, ◌<◌, min, List, length, get_or, ap, arith}
-use Rattle.bytes.proofs.Parts.{be_far, be_one, be_two}
-use Rattle.bytes.proofs.u16_at.Goals as goal
+use Rattle.lent_bytes.proofs.Parts.{be_far, be_one, be_two}
+use Rattle.lent_bytes.proofs.u16_at.Goals as goal
 
 pub returns : goal.returns
 returns c =
