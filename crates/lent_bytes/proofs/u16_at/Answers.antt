@@ -7,6 +7,6 @@ returns c =
     let b : List ℕ = c.args.bytes.now in
     let i : ℕ = c.args.at in
     let h : length b < 2 ^ 64 = omega arith in
-    let e : c.byte-at-low.result ≡ get_or b c.saturating-add.result 0 = c.byte-at-low.ensures in
-    let k : get_or b c.saturating-add.result 0 ≡ get_or b (min (i + 1) (2 ^ 64 - 1)) 0 = ap (λ j. get_or b j 0) c.saturating-add.ensures in
+    let e : c.byte_at-low.result ≡ get_or b c.saturating_add.result 0 = c.byte_at-low.ensures in
+    let k : get_or b c.saturating_add.result 0 ≡ get_or b (min (i + 1) (2 ^ 64 - 1)) 0 = ap (λ j. get_or b j 0) c.saturating_add.ensures in
     omega (arith, e, k, be_far b i 1 1 h, be_one b (i + 1), be_one b (min (i + 1) (2 ^ 64 - 1)), be_two b i)

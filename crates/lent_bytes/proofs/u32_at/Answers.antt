@@ -8,5 +8,5 @@ returns c =
     let b : List ℕ = c.args.bytes.now in
     let i : ℕ = c.args.at in
     let h : length b < 2 ^ 64 = omega arith in
-    let e : be b c.saturating-add.result 2 ≡ be b (min (i + 2) (2 ^ 64 - 1)) 2 = ap (λ j. be b j 2) c.saturating-add.ensures in
-    omega (arith, c.u16-at-high.ensures, c.u16-at-low.ensures, e, be_far b i 2 2 h, be_four b i)
+    let e : be b c.saturating_add.result 2 ≡ be b (min (i + 2) (2 ^ 64 - 1)) 2 = ap (λ j. be b j 2) c.saturating_add.ensures in
+    omega (arith, c.u16_at-high.ensures, c.u16_at-low.ensures, e, be_far b i 2 2 h, be_four b i)

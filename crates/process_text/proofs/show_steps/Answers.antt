@@ -9,5 +9,5 @@ returns-in-err-work c = IfOk-from_err _ _ c.from-residual-in-err-work.ensures.0
 
 pub returns : goal.returns
 returns c =
-    let e : min (length c.as-mut-slice.result.now) (vec_len c.in-ok-work.work.lens) ≡ 8192 = omega (arith, c.as-mut-slice.ensures.len, c.in-ok-work.ensures, c.in-ok-rows.ensures.len) in
-    subst (λ (z : ℕ). IfOk c.steps-over.result (λ s. ShowsSteps (settled_file c.args.model.now) c.args.row z (string_bytes s))) e c.steps-over.ensures
+    let e : min (length c.as_mut_slice.result.now) (vec_len c.in-ok-work.work.lens) ≡ 8192 = omega (arith, c.as_mut_slice.ensures.len, c.in-ok-work.ensures, c.in-ok-rows.ensures.len) in
+    subst (λ (z : ℕ). IfOk c.steps_over.result (λ s. ShowsSteps (settled_file c.args.model.now) c.args.row z (string_bytes s))) e c.steps_over.ensures

@@ -2,14 +2,14 @@ use Rattle.std.proofs.Common.{◌≡◌, ℕ, ◌<◌, List, ◌++◌, vec_len, 
 use Rattle.process_text.proofs.Showing.{listed_at, slot_known, shows}
 use Rattle.process_text.proofs.steps_over.Goals as goal
 
-pub push-lines-requires : goal.push-lines-requires
-push-lines-requires c k h =
+pub push_lines-requires : goal.push_lines-requires
+push_lines-requires c k h =
     let x = c.in-Ok.ensures in
     let l = listed_at _ _ _ _ _ _ x in
     let few = l.few in
     (slot_known _ _ _ _ _ _ x, omega arith)
 
-pub returns-in-ok-push-lines : goal.returns-in-ok-push-lines
-returns-in-ok-push-lines c =
+pub returns-in-ok-push_lines : goal.returns-in-ok-push_lines
+returns-in-ok-push_lines c =
     let x = c.in-Ok.ensures in
-    shows _ _ _ _ c.list-steps.new.rows c.list-steps.new.work x _ _ c.in-ok-out.ensures.ok c.in-ok-push-lines.ensures
+    shows _ _ _ _ c.list_steps.new.rows c.list_steps.new.work x _ _ c.in-ok-out.ensures.ok c.in-ok-push_lines.ensures

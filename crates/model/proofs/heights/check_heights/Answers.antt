@@ -11,8 +11,8 @@ returns-then-high-ge64 c =
     let b : List ℕ = c.args.file.bytes.now in
     let i : ℕ = c.loop-i.i in
     let lt : i < rows b = omega (arith, c.loop-i-test.true, c.rows-i-end.ensures.value) in
-    let e : height (process b i) ≡ 1 + max c.part-height-left.result c.part-height-right.result =
-    tall_row b (all_fit b c.requires.fit) i lt c.loop-i.heights c.loop-i.invariant.1 c.row-at-row.result c.shape-shape.result _ _ c.row-at-row.ensures c.shape-shape.ensures c.part-height-left.ensures c.part-height-right.ensures
+    let e : height (process b i) ≡ 1 + max c.part_height-left.result c.part_height-right.result =
+    tall_row b (all_fit b c.requires.fit) i lt c.loop-i.heights c.loop-i.invariant.1 c.row_at-row.result c.shape-shape.result _ _ c.row_at-row.ensures c.shape-shape.ensures c.part_height-left.ensures c.part_height-right.ensures
     in
     record {
       told = refl;
@@ -24,8 +24,8 @@ loop-i-preserved c =
     let b : List ℕ = c.args.file.bytes.now in
     let i : ℕ = c.loop-i.i in
     let lt : i < rows b = omega (arith, c.loop-i-test.true, c.rows-i-end.ensures.value) in
-    let e : height (process b i) ≡ 1 + max c.part-height-left.result c.part-height-right.result =
-    tall_row b (all_fit b c.requires.fit) i lt c.loop-i.heights c.loop-i.invariant.1 c.row-at-row.result c.shape-shape.result _ _ c.row-at-row.ensures c.shape-shape.ensures c.part-height-left.ensures c.part-height-right.ensures
+    let e : height (process b i) ≡ 1 + max c.part_height-left.result c.part_height-right.result =
+    tall_row b (all_fit b c.requires.fit) i lt c.loop-i.heights c.loop-i.invariant.1 c.row_at-row.result c.shape-shape.result _ _ c.row_at-row.ensures c.shape-shape.ensures c.part_height-left.ensures c.part_height-right.ensures
     in
     let t : height (process b i) ≡ c.max-high.result + 1 = omega (arith, e, c.max-high.ensures) in
     let w : i < length c.loop-i.heights = omega (arith, lt, c.requires.few, c.loop-i.invariant.0) in (

@@ -10,10 +10,10 @@ loop-i-preserved c =
     let b : List ℕ = c.args.file.bytes.now in
     let i : ℕ = c.loop-i.i in
     let ss : List ℕ = c.loop-i.sets in
-    let v : ℕ = c.open-set-set.result in
+    let v : ℕ = c.open_set-set.result in
     let lt : i < rows b = omega (arith, c.loop-i-test.true, c.rows-i-end.ensures.value) in
     let w : i < length ss = omega (arith, lt, c.requires.room, c.loop-i.auto.sets) in
-    let now-open : OpenedAs v (process b i) = subst (λ (z : ℕ). OpenedAs z (process b i)) (sym c.open-set-set.ensures) (opened_row b ss c.requires.fit c.requires.named c.requires.few i lt c.loop-i.invariant c.row-at-row.result c.row-at-row.ensures) in
+    let now-open : OpenedAs v (process b i) = subst (λ (z : ℕ). OpenedAs z (process b i)) (sym c.open_set-set.ensures) (opened_row b ss c.requires.fit c.requires.named c.requires.few i lt c.loop-i.invariant c.row_at-row.result c.row_at-row.ensures) in
     below_more
     (λ k. OpenedAs (get_or (set ss i v) k 0) (process b k))
     i

@@ -12,7 +12,7 @@ returns-then-self-e-eq0 c =
     let e : ℕ = c.args.e in
     let mark : List ℕ = c.args.self.now.mark.now in
     let low : w % 2 ^ e ≡ 0 = ap (λ (n : ℕ). w % n) (sym (one_shl e 64 c.requires)) ∙ c.if-self-e-eq0.true in
-    let member : bit w e ≡ true = sym c.if-not-bit-at.ensures in
+    let member : bit w e ≡ true = sym c.if-not-bit_at.ensures in
     let t : member_text mark w e ≡ mark ++ decimal e =
     cond-true (bit w e) _ _ member ∙ ap (λ (z : List ℕ). z ++ (mark ++ decimal e)) (cond-true (eqb (w % 2 ^ e) 0) _ _ (eq-eqb _ _ low))
     in

@@ -22,9 +22,9 @@ returns-in-err-len c =
 pub returns : goal.returns
 returns c =
     let t = c.args.table.now in
-    built (Steps (table_lts c.args.table.now.bytes.now)) (start c.args.table.now.bytes.now) c.explore.new.rows c.in-ok-len.len (length c.args.rows.now) (length c.args.out.now) c.write-table.new.out c.write-table.result
+    built (Steps (table_lts c.args.table.now.bytes.now)) (start c.args.table.now.bytes.now) c.explore.new.rows c.in-ok-len.len (length c.args.rows.now) (length c.args.out.now) c.write_table.new.out c.write_table.result
     (law_of c.args.table.now.bytes.now (lawful t.bytes.now t.pairs t.formed t.ended))
     c.in-ok-len.ensures
     (omega arith)
     (omega arith)
-    c.write-table.ensures
+    c.write_table.ensures

@@ -2,4 +2,4 @@ use Rattle.normalise.proofs.Bytewise.{put_step}
 use Rattle.normalise.proofs.puts.put_step.Goals as goal
 
 pub returns : goal.returns
-returns c = put_step c.args.out.now _ c.args.at c.args.event _ c.requires c.put-u16.ensures
+returns c = put_step c.args.out.now _ c.args.at c.args.event _ c.requires c.put_u16.ensures

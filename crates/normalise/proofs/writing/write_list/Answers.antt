@@ -23,8 +23,8 @@ loop-event-preserved c =
     elim c.match-target.branch [
       | in-Some+else-place-room w ↦
           subst (λ (b : List ℕ). U b c.match-target.count) (sym w.out-is)
-          (subst (λ (k : ℕ). U w.put-step.new.out k) (sym w.count-is)
-          (under_more (Steps (table_lts c.args.table.now.bytes.now)) c.args.rows.now c.args.len c.loop-event.out _ c.args.n c.loop-event.event c.args.begun c.loop-event.count w.in-Some.k c.requires.inside (omega arith) c.loop-event-test.true w.in-Some.ensures (omega arith) (omega arith) w.put-step.ensures c.loop-event.invariant))
+          (subst (λ (k : ℕ). U w.put_step.new.out k) (sym w.count-is)
+          (under_more (Steps (table_lts c.args.table.now.bytes.now)) c.args.rows.now c.args.len c.loop-event.out _ c.args.n c.loop-event.event c.args.begun c.loop-event.count w.in-Some.k c.requires.inside (omega arith) c.loop-event-test.true w.in-Some.ensures (omega arith) (omega arith) w.put_step.ensures c.loop-event.invariant))
       | in-default w ↦
           subst (λ (b : List ℕ). U b c.match-target.count) (sym w.out-is)
           (subst (λ (k : ℕ). U c.loop-event.out k) (sym w.count-is)

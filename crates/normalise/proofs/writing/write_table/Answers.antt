@@ -8,17 +8,17 @@ use Rattle.normalise.proofs.writing.write_table.Goals as goal
 
 pub returns : goal.returns
 returns c =
-    made (Steps (table_lts c.args.table.now.bytes.now)) c.args.rows.now c.args.len c.write-lists.new.out _ c.in-ok-steps.steps _ refl c.put-u32.ensures c.in-ok-steps.ensures.0 c.in-ok-steps.ensures.1
+    made (Steps (table_lts c.args.table.now.bytes.now)) c.args.rows.now c.args.len c.write_lists.new.out _ c.in-ok-steps.steps _ refl c.put_u32.ensures c.in-ok-steps.ensures.0 c.in-ok-steps.ensures.1
 
 pub returns-then-len-room : goal.returns-then-len-room
 returns-then-len-room c =
     large_pairs (Steps (table_lts c.args.table.now.bytes.now)) (start c.args.table.now.bytes.now) c.args.rows.now c.args.len c.requires.nodes _ (omega arith)
 
-pub write-lists-requires : goal.write-lists-requires
-write-lists-requires c =
+pub write_lists-requires : goal.write_lists-requires
+write_lists-requires c =
     record {
       small = c.requires.small;
       few = c.requires.few;
       nodes = c.requires.nodes;
-      head = head_start c.args.out.now c.put-u16.new.out c.args.len c.requires.zero c.put-u16.ensures (omega arith) (omega arith);
+      head = head_start c.args.out.now c.put_u16.new.out c.args.len c.requires.zero c.put_u16.ensures (omega arith) (omega arith);
     }

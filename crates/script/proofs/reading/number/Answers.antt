@@ -27,7 +27,7 @@ returns c =
     let i : ℕ = c.loop-b.b-index in
     let past : length ds ≤ i = omega arith in
     record {
-      some = omega (arith, eqb-false (length ds) 0 (sym c.if-is-empty.ensures));
+      some = omega (arith, eqb-false (length ds) 0 (sym c.if-is_empty.ensures));
       few = omega arith;
       digits = λ k h. c.loop-b.invariant.2 k (omega arith);
       is = sym (value_all c.loop-b.n ds i past) ∙ c.loop-b.invariant.0;

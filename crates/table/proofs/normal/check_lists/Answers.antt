@@ -6,4 +6,4 @@ use Rattle.table.proofs.normal.check_lists.Goals as goal
 
 pub returns : goal.returns
 returns c =
-    subst (λ (n : ℕ). Passes (rule TableNormal n (NormalAt c.args.bytes.now)) c.first.result) c.states-of-places.ensures c.first.ensures
+    subst (λ (n : ℕ). Passes (rule TableNormal n (NormalAt c.args.bytes.now)) c.first.result) c.states_of-places.ensures c.first.ensures

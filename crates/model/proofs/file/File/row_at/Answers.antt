@@ -13,7 +13,7 @@ pub returns-in-Some : goal.returns-in-Some
 unfolding row_at
 returns-in-Some c =
     let b : List ℕ = c.args.self.now.bytes.now in
-    c.row-with.ensures
-    ∙ ap (λ (l : ℕ). row_with_lem c.in-Some.op l c.right-at.result) c.left-at.ensures
-    ∙ ap (λ (r : ℕ). row_with_lem c.in-Some.op (left_at_lem b c.args.i) r) c.right-at.ensures
+    c.row_with.ensures
+    ∙ ap (λ (l : ℕ). row_with_lem c.in-Some.op l c.right_at.result) c.left_at.ensures
+    ∙ ap (λ (r : ℕ). row_with_lem c.in-Some.op (left_at_lem b c.args.i) r) c.right_at.ensures
     ∙ ap (λ (o : Option Op). row_from o (left_at_lem b c.args.i) (right_at_lem b c.args.i)) c.in-Some.ensures

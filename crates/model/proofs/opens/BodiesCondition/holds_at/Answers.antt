@@ -11,8 +11,8 @@ returns c =
     let b : List ℕ = c.args.self.now.bytes.now in
     let ss : List ℕ = c.args.self.now.sets.now in
     let d : ℕ = c.args.d in
-    let w : ℕ = c.set-at-set.result in
-    let e : w ≡ get_or ss (definition_at_lem b d) 0 = c.set-at-set.ensures ∙ ap (λ (k : ℕ). get_or ss k 0) c.definition-at.ensures in
+    let w : ℕ = c.set_at-set.result in
+    let e : w ≡ get_or ss (definition_at_lem b d) 0 = c.set_at-set.ensures ∙ ap (λ (k : ℕ). get_or ss k 0) c.definition_at.ensures in
     let o : OpenBits w (body b d) = subst (λ (z : ℕ). OpenBits z (body b d)) (sym e) (c.requires.3 (definition_at_lem b d) (c.requires.2 d c.requires.1)).bits in (
       λ t k h. bits_from_below w d (below_from_shift w d (eqb-true _ _ t)) k ((o k).1 h),
       λ all. eq-eqb _ _ (shift_from_below w d (below_from_bits w d (omega arith) (λ k t. all k ((o k).0 t)))),

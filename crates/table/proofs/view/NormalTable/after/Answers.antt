@@ -7,8 +7,8 @@ returns c =
     let b = c.args.self.now.table.bytes.now in
     let once = lone_of b c.args.self.now.normal in
     record {
-      value = c.first-with.ensures.value;
-      leads = leads_by (steps_of b c.args.state) c.args.event c.first-with.result (once.once c.args.state) c.first-with.ensures.value;
-      lawful = c.first-with.ensures.lawful;
+      value = c.first_with.ensures.value;
+      leads = leads_by (steps_of b c.args.state) c.args.event c.first_with.result (once.once c.args.state) c.first_with.ensures.value;
+      lawful = c.first_with.ensures.lawful;
       lone = once;
     }

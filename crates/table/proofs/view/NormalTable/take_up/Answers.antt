@@ -4,21 +4,21 @@ use Rattle.table.proofs.Bare.{bare_sized, bare_pairs, bare_formed, bare_ended, b
 use Rattle.table.proofs.Taking.{taken_whole, taken_bare}
 use Rattle.table.proofs.view.NormalTable.take_up.Goals as goal
 
-pub returns-then-is-normal-table : goal.returns-then-is-normal-table
-returns-then-is-normal-table c =
-    taken_whole (normal_rules c.args.bytes.now) c.args.bytes.now c.is-normal-table.result c.is-normal-table.ensures c.if-is-normal-table.true
+pub returns-then-is_normal_table : goal.returns-then-is_normal_table
+returns-then-is_normal_table c =
+    taken_whole (normal_rules c.args.bytes.now) c.args.bytes.now c.is_normal_table.result c.is_normal_table.ensures c.if-is_normal_table.true
 
 pub returns : goal.returns
 returns c =
-    taken_bare (normal_rules c.args.bytes.now) c.args.bytes.now c.is-normal-table.result c.is-normal-table.ensures c.if-is-normal-table.false
+    taken_bare (normal_rules c.args.bytes.now) c.args.bytes.now c.is_normal_table.result c.is_normal_table.ensures c.if-is_normal_table.false
 
 pub invariant-of-result : goal.invariant-of-result
 invariant-of-result c =
-    let m = c.is-normal-table.ensures.0 c.if-is-normal-table.true in
+    let m = c.is_normal_table.ensures.0 c.if-is_normal_table.true in
     (m.0 0 (lit< tt), (m.1.0, (λ k h. (m.1.1.0 k h).0, (λ k h. (m.1.1.0 k h).1, tt))))
 
-pub invariant-of-result-then-is-normal-table : goal.invariant-of-result-then-is-normal-table
-invariant-of-result-then-is-normal-table c = (∣ (c.is-normal-table.ensures.0 c.if-is-normal-table.true).1.1.1.0 ∣₁, tt)
+pub invariant-of-result-then-is_normal_table : goal.invariant-of-result-then-is_normal_table
+invariant-of-result-then-is_normal_table c = (∣ (c.is_normal_table.ensures.0 c.if-is_normal_table.true).1.1.1.0 ∣₁, tt)
 
 pub invariant-of-result-2 : goal.invariant-of-result-2
 invariant-of-result-2 c = (bare_sized, (bare_pairs, (bare_formed, (bare_ended, tt))))

@@ -4,15 +4,15 @@ use Rattle.table.proofs.Bare.{bare_sized, bare_pairs, bare_formed, bare_ended}
 use Rattle.table.proofs.Taking.{taken_whole, taken_bare}
 use Rattle.table.proofs.view.Table.take_up.Goals as goal
 
-pub returns-then-is-table : goal.returns-then-is-table
-returns-then-is-table c = taken_whole (table_rules c.args.bytes.now) c.args.bytes.now c.is-table.result c.is-table.ensures c.if-is-table.true
+pub returns-then-is_table : goal.returns-then-is_table
+returns-then-is_table c = taken_whole (table_rules c.args.bytes.now) c.args.bytes.now c.is_table.result c.is_table.ensures c.if-is_table.true
 
 pub returns : goal.returns
-returns c = taken_bare (table_rules c.args.bytes.now) c.args.bytes.now c.is-table.result c.is-table.ensures c.if-is-table.false
+returns c = taken_bare (table_rules c.args.bytes.now) c.args.bytes.now c.is_table.result c.is_table.ensures c.if-is_table.false
 
 pub invariant-of-result : goal.invariant-of-result
 invariant-of-result c =
-    let m = c.is-table.ensures.0 c.if-is-table.true in
+    let m = c.is_table.ensures.0 c.if-is_table.true in
     (m.0 0 (lit< tt), (m.1.0, (λ k h. (m.1.1.0 k h).0, (λ k h. (m.1.1.0 k h).1, tt))))
 
 pub invariant-of-result-2 : goal.invariant-of-result-2
