@@ -17,8 +17,8 @@ pub trait Condition {
 
 // The first of the places below `places` at which the condition fails, as a fault.
 pub fn first<C: Condition>(condition: &C, places: usize, refusal: Refusal) -> Result<(), Fault>
-    requires { (k : ℕ) → k < places → can condition.now k }
-    ensures { Passes (rule refusal places (holds condition.now)) result }
+    requires { (k : ℕ) → k < places → C.can condition.now k }
+    ensures { Passes (rule refusal places (C.holds condition.now)) result }
 {
     for i in 0..places {
         if !condition.holds_at(i) {

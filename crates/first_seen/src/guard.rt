@@ -12,7 +12,7 @@ pub trait Blank: Copy {
 
 // Makes every row blank.
 pub fn clear<T: Blank>(rows: &mut [T])
-    ensures { rows.new ≡ cleared blank rows.old }
+    ensures { rows.new ≡ cleared T.blank rows.old }
 {
     for row in rows.iter_mut() {
         *row = T::blank();
@@ -26,7 +26,7 @@ pub struct Clearing<'a, T: Blank> {
 
 impl<T: Blank> Drop for Clearing<'_, T> {
     fn drop(self)
-        ensures { self.exit.0.now ≡ cleared blank self.entry.rows.now }
+        ensures { self.exit.0.now ≡ cleared T.blank self.entry.rows.now }
     {
         clear(self.rows);
         let Clearing { rows: _ } = self;
@@ -40,7 +40,7 @@ pub struct Unfinished<'a, T: Blank> {
 
 impl<T: Blank> Drop for Unfinished<'_, T> {
     fn drop(self)
-        ensures { self.exit.0.now ≡ cleared blank self.entry.out.now }
+        ensures { self.exit.0.now ≡ cleared T.blank self.entry.out.now }
     {
         clear(self.out);
         let Unfinished { out: _ } = self;

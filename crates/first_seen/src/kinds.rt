@@ -2,6 +2,7 @@
 // same when they are equal, and pairs when both parts are.
 ghost use Rattle.std.specs.Prelude.{◌&&◌, nat_eq};
 ghost use Rattle.std.proofs.Common.{rules};
+ghost use Rattle.first_seen.specs.Sameness.{both_exact};
 
 use crate::guard::Blank;
 use crate::list::Same;
@@ -34,6 +35,8 @@ impl<A: Same, B: Same> Same for (A, B) {
     ghost key = { λ x. (A.Same.key x.0, B.Same.key x.1) };
 
     ghost alike = { λ x y. A.Same.alike x.0 y.0 && B.Same.alike x.1 y.1 };
+
+    ghost exact = { λ x y. both_exact (A.Same.alike x.0 y.0) (B.Same.alike x.1 y.1) (A.Same.exact x.0 y.0) (B.Same.exact x.1 y.1) };
 
     fn same(&self, other: &(A, B)) -> bool {
         self.0.same(&other.0) && self.1.same(&other.1)
