@@ -7,6 +7,6 @@ pub returns : goal.returns
 unfolding set_text_lem
 returns c =
     let inner : List ℕ = flat_map (member_text c.args.mark.now c.args.set) (range_with_len 0 64) in
-    c.in-ok-push_str.ensures.bytes
-    ∙ ap (λ (z : List ℕ). z ++ codes "}") (c.in-ok-push_lines.ensures ∙ ap (λ (z : List ℕ). z ++ inner) c.in-ok-out.ensures.ok)
+    c.in_ok-push_str.ensures.bytes
+    ∙ ap (λ (z : List ℕ). z ++ codes "}") (c.in_ok-push_lines.ensures ∙ ap (λ (z : List ℕ). z ++ inner) c.in_ok-out.ensures.ok)
     ∙ append_assoc (codes "{") inner (codes "}")

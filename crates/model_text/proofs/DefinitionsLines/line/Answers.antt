@@ -19,6 +19,6 @@ returns c =
     let e : r ≡ definition_at_lem b d = c.unwrap_or-body.ensures ∙ read_or d (definitions b) _ _ 0 c.requires told in
     let lt : r < rows b = subst (λ (z : ℕ). z < rows b) (sym e) (m.bodied d c.requires) in
     let o : c.open_in-open.result ≡ open_of (body b d) = (c.open_in-open.ensures.row lt).value ∙ ap (λ (z : ℕ). open_of (process b z)) e in
-    let t : string_bytes c.in-ok-set.set ≡ set_text_lem (codes "N") (open_of (body b d)) = c.in-ok-set.ensures ∙ ap (set_text_lem (codes "N")) o in
+    let t : string_bytes c.in_ok-set.set ≡ set_text_lem (codes "N") (open_of (body b d)) = c.in_ok-set.ensures ∙ ap (set_text_lem (codes "N")) o in
     let P : ℕ → List ℕ → Type 0 = λ x bs. IfOk c.format.result (λ s. string_bytes s ≡ codes "N" ++ (decimal d ++ (codes " = R" ++ (decimal x ++ (codes " opens " ++ (bs ++ codes "\n")))))) in
     subst (λ (x : ℕ). P x (set_text_lem (codes "N") (open_of (body b d)))) e (subst (P r) t c.format.ensures.ok)

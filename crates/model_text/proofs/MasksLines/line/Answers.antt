@@ -10,5 +10,5 @@ returns c =
     let b : List ℕ = c.args.self.now.file.bytes.now in
     let k : ℕ = c.args.k in
     let m : c.unwrap_or-mask.result ≡ mask_at_lem b k = c.unwrap_or-mask.ensures ∙ read_or k (masks b) _ _ 0 c.requires c.mask.ensures in
-    let t : string_bytes c.in-ok-set.set ≡ set_text_lem [] (mask_at_lem b k) = c.in-ok-set.ensures ∙ ap (set_text_lem []) m in
+    let t : string_bytes c.in_ok-set.set ≡ set_text_lem [] (mask_at_lem b k) = c.in_ok-set.ensures ∙ ap (set_text_lem []) m in
     subst (λ (bs : List ℕ). IfOk c.format.result (λ s. string_bytes s ≡ codes "M" ++ (decimal k ++ (codes " = " ++ (bs ++ codes "\n"))))) t c.format.ensures.ok

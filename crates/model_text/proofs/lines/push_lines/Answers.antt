@@ -7,4 +7,4 @@ loop-k-init g c = not_grown (g.L.Lines.text c.args.lines.now) (string_bytes c.ar
 
 pub loop-k-preserved : goal.loop-k-preserved
 loop-k-preserved g c =
-    grown (g.L.Lines.text c.args.lines.now) (string_bytes c.args.out.now) (string_bytes c.loop-k.out) _ _ c.loop-k.k c.loop-k.invariant c.in-ok-piece.ensures c.in-ok-append.ensures
+    grown (g.L.Lines.text c.args.lines.now) (string_bytes c.args.out.now) (string_bytes c.loop-k.out) _ _ c.loop-k.k c.loop-k.invariant c.in_ok-piece.ensures c.in_ok-append.ensures

@@ -6,7 +6,7 @@ use Rattle.normalise.specs.Writing.{Under}
 use Rattle.normalise.proofs.Frames.{under_none, under_past, under_more}
 use Rattle.normalise.proofs.Counts.{large_step}
 use Rattle.normalise.proofs.writing.write_list.Goals as goal
-use Rattle.normalise.proofs.writing.write_list.Goals.{in-Some+else-place-room, in-default}
+use Rattle.normalise.proofs.writing.write_list.Goals.{in-Some+else-place-room, in_default}
 
 pub loop-event-init : goal.loop-event-init
 loop-event-init c = under_none (Steps (table_lts c.args.table.now.bytes.now)) c.args.rows.now c.args.len _ _ _ c.requires.head c.requires.written
@@ -25,8 +25,8 @@ loop-event-preserved c =
           subst (λ (b : List ℕ). U b c.match-target.count) (sym w.out-is)
           (subst (λ (k : ℕ). U w.put_step.new.out k) (sym w.count-is)
           (under_more (Steps (table_lts c.args.table.now.bytes.now)) c.args.rows.now c.args.len c.loop-event.out _ c.args.n c.loop-event.event c.args.begun c.loop-event.count w.in-Some.k c.requires.inside (omega arith) c.loop-event-test.true w.in-Some.ensures (omega arith) (omega arith) w.put_step.ensures c.loop-event.invariant))
-      | in-default w ↦
+      | in_default w ↦
           subst (λ (b : List ℕ). U b c.match-target.count) (sym w.out-is)
           (subst (λ (k : ℕ). U c.loop-event.out k) (sym w.count-is)
-          (under_past (Steps (table_lts c.args.table.now.bytes.now)) c.args.rows.now c.args.len c.loop-event.out c.args.n c.loop-event.event c.args.begun c.loop-event.count w.in-default.ensures c.loop-event.invariant))
+          (under_past (Steps (table_lts c.args.table.now.bytes.now)) c.args.rows.now c.args.len c.loop-event.out c.args.n c.loop-event.event c.args.begun c.loop-event.count w.in_default.ensures c.loop-event.invariant))
     ]

@@ -8,7 +8,7 @@ use Rattle.normalise.proofs.writing.write_table.Goals as goal
 
 pub returns : goal.returns
 returns c =
-    made (Steps (table_lts c.args.table.now.bytes.now)) c.args.rows.now c.args.len c.write_lists.new.out _ c.in-ok-steps.steps _ refl c.put_u32.ensures c.in-ok-steps.ensures.0 c.in-ok-steps.ensures.1
+    made (Steps (table_lts c.args.table.now.bytes.now)) c.args.rows.now c.args.len c.write_lists.new.out _ c.in_ok-steps.steps _ refl c.put_u32.ensures c.in_ok-steps.ensures.0 c.in_ok-steps.ensures.1
 
 pub returns-then-len-room : goal.returns-then-len-room
 returns-then-len-room c =

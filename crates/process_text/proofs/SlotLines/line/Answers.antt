@@ -20,6 +20,6 @@ returns c =
     c.step.ensures ∙ cond-true (ltb s.row (vec_len s.work.now.lens) && ltb c.args.k 256) (Some y) None (and_from _ _ (lt-ltb _ _ c.requires.0) (lt-ltb _ _ c.requires.1))
     in
     let e : x ≡ y = c.unwrap_or-step.ensures ∙ ap (λ (o : Option Step). unwrap_or o (record { event = 0; next = 0 })) found in
-    let t : string_bytes c.in-ok-process.process ≡ row_text_lem (get_or rs x.next blank) = c.in-ok-process.ensures ∙ ap row_text_lem c.row_at.ensures in
+    let t : string_bytes c.in_ok-process.process ≡ row_text_lem (get_or rs x.next blank) = c.in_ok-process.ensures ∙ ap row_text_lem c.row_at.ensures in
     let P : ℕ → ℕ → List ℕ → Type 0 = λ a n bs. IfOk c.format.result (λ z. string_bytes z ≡ decimal a ++ (codes " -> R" ++ (decimal n ++ (codes " = " ++ (bs ++ codes "\n"))))) in
     subst (λ (z : Step). P z.event z.next (row_text_lem (get_or rs z.next blank))) e (subst (P x.event x.next) t c.format.ensures.ok)

@@ -15,19 +15,19 @@ returns-then-at-line c =
     let s = c.space-at.ensures in
     (refl, λ x y l. omega (arith, space_within b x y l, first_space b x y c.space-at.result l s.before s.found s.within, c.if-at-line.true))
 
-pub returns-in-default : goal.returns-in-default
-returns-in-default c =
+pub returns-in_default : goal.returns-in-default
+returns-in_default c =
     let b : List ℕ = c.args.line.now in
     let at : ℕ = c.space-at.result in
     let s = c.space-at.ensures in
-    (refl, λ x y l. c.in-default.ensures x (subst (λ (z : List ℕ). Number z x) (sym (front b at)) (left_of_lem b x y at l (first_space b x y at l s.before s.found s.within))))
+    (refl, λ x y l. c.in_default.ensures x (subst (λ (z : List ℕ). Number z x) (sym (front b at)) (left_of_lem b x y at l (first_space b x y at l s.before s.found s.within))))
 
-pub returns-in-default-number : goal.returns-in-default-number
-returns-in-default-number c =
+pub returns-in_default-number : goal.returns-in_default-number
+returns-in_default-number c =
     let b : List ℕ = c.args.line.now in
     let at : ℕ = c.space-at.result in
     let s = c.space-at.ensures in
-    (refl, λ x y l. c.in-default-number.ensures y (subst (λ (z : List ℕ). Number z y) (sym (take_rest b (at + 1))) (right_of b x y at l (first_space b x y at l s.before s.found s.within))))
+    (refl, λ x y l. c.in_default-number.ensures y (subst (λ (z : List ℕ). Number z y) (sym (take_rest b (at + 1))) (right_of b x y at l (first_space b x y at l s.before s.found s.within))))
 
 pub returns : goal.returns
 returns c =

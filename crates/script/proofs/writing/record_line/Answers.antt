@@ -6,4 +6,4 @@ pub returns : goal.returns
 unfolding record_text
 returns c =
     let P : List ℕ → List ℕ → Type 0 = λ a v. IfOk c.format.result (λ s. string_bytes s ≡ a ++ (codes " " ++ (v ++ codes "\n"))) in
-    subst (P (asked_text_lem c.args.outcome.asked)) c.in-ok-verdict.ensures (subst (λ (a : List ℕ). P a (string_bytes c.in-ok-verdict.verdict)) c.in-ok-asked.ensures c.format.ensures.ok)
+    subst (P (asked_text_lem c.args.outcome.asked)) c.in_ok-verdict.ensures (subst (λ (a : List ℕ). P a (string_bytes c.in_ok-verdict.verdict)) c.in_ok-asked.ensures c.format.ensures.ok)

@@ -32,6 +32,6 @@ pub returns : goal.returns
 returns c =
     let b = c.args.table.now.bytes.now in
     record {
-      value = follow_end (steps_of b c.args.state) c.args.event c.loop-step.k c.loop-step.invariant c.in-default.ensures.entry;
-      lawful = c.in-default.ensures.lawful;
+      value = follow_end (steps_of b c.args.state) c.args.event c.loop-step.k c.loop-step.invariant c.in_default.ensures.entry;
+      lawful = c.in_default.ensures.lawful;
     }
