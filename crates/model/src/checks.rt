@@ -8,8 +8,8 @@ ghost use Rattle.model.specs.Rules.{floor, FieldOk, FieldsOk, RowOk, RowNew, Pai
 use crate::file::File;
 use crate::heights::check_heights;
 use crate::op::{Op, Use};
-use lent_bytes::{u16_at, u32_at};
 use fault::{Condition, Fault, Refusal, first};
+use lent_bytes::{u16_at, u32_at};
 
 #[derive(Clone, Copy)]
 struct Pairs<'a> {
@@ -201,7 +201,10 @@ fn check_length(file: File) -> Result<(), Fault>
 fn check_head(file: File) -> Result<(), Fault>
     ensures { Passes (head_rule file.entry.bytes.now) result }
 {
-    if u16_at(file.bytes, 0) == 1 && file.events() <= 62 && lent_bytes::byte_at(file.bytes, 3) == 3 {
+    if u16_at(file.bytes, 0) == 1
+        && file.events() <= 62
+        && lent_bytes::byte_at(file.bytes, 3) == 3
+    {
         Ok(())
     } else {
         Err(Fault {

@@ -7,8 +7,8 @@ ghost use Rattle.model.specs.Tall.{height_field};
 
 use crate::file::File;
 use crate::op::Use;
-use lent_bytes::byte_at;
 use fault::{Fault, Refusal};
+use lent_bytes::byte_at;
 
 // The height that a field adds, by the heights of the rows before.
 fn part_height(heights: &[u8], field: Use, part: u16) -> u8

@@ -10,8 +10,8 @@ ghost use Rattle.model.specs.Models.{drafted_file};
 ghost use Rattle.model_text.specs.Text.{alphabet_text_lem, definition_line, mask_line, member_text, model_text_lem, refused_text_lem, row_line, row_text_lem, set_text_lem, Shows};
 
 use crate::lines::{Lines, push_lines};
-use lent_bytes::bit_at;
 use fault::Fault;
+use lent_bytes::bit_at;
 use model::{Drafted, File, Op, Row, check};
 use std::alloc::{AllocError, Global};
 
