@@ -19,7 +19,7 @@ led R s rows len n e t j f l p q a h None o =
     let d = f.done n e p q (inl l) j (a.to j h) in
     λ x y. found_absent rows len t f.room o d.0 d.1.within (alike_chain _ _ _ d.1.alike (alike_flip _ _ a))
 
-pub returns-in_default : goal.returns-in-default
+pub returns-in_default : goal.returns-in_default
 returns-in_default c = λ x h. c.in_default.ensures x (c.advance-set.ensures.from x h)
 
 pub returns : goal.returns

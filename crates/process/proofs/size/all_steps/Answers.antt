@@ -11,8 +11,8 @@ known-all-requires c =
     let q = state_known _ c.args.start c.args.rows.now c.args.work.now c.args.n c.requires c.loop-i.i c.index-r.result.now t c.index-r.ensures in
     record { row = q.2; done = q.0 }
 
-pub overflow-add-all : goal.overflow-add-all
-overflow-add-all c =
+pub overflow_add-all : goal.overflow_add-all
+overflow_add-all c =
     let t = c.loop-i-test.true in
     let f = c.requires.few in
     let x = c.loop-i.invariant in

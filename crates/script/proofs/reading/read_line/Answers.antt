@@ -15,7 +15,7 @@ returns-then-at-line c =
     let s = c.space-at.ensures in
     (refl, λ x y l. omega (arith, space_within b x y l, first_space b x y c.space-at.result l s.before s.found s.within, c.if-at-line.true))
 
-pub returns-in_default : goal.returns-in-default
+pub returns-in_default : goal.returns-in_default
 returns-in_default c =
     let b : List ℕ = c.args.line.now in
     let at : ℕ = c.space-at.result in

@@ -16,8 +16,8 @@ pub loop-step-preserved : goal.loop-step-preserved
 loop-step-preserved c =
     follow_on (steps_of c.args.table.now.bytes.now c.args.state) c.args.event c.loop-step.k c.loop-step.invariant c.in-Some.step c.in-Some.ensures.entry c.if-step-event.false
 
-pub overflow-add-k : goal.overflow-add-k
-overflow-add-k c =
+pub overflow_add-k : goal.overflow_add-k
+overflow_add-k c =
     let xs = steps_of c.args.table.now.bytes.now c.args.state in
     let in' : c.loop-step.k < length xs = nth_within xs c.loop-step.k c.in-Some.step (sym c.in-Some.ensures.entry) in
     omega (arith, in', c.in-Some.ensures.lawful.short c.args.state)

@@ -10,10 +10,10 @@ returns-then-is_table c = taken_whole (table_rules c.args.bytes.now) c.args.byte
 pub returns : goal.returns
 returns c = taken_bare (table_rules c.args.bytes.now) c.args.bytes.now c.is_table.result c.is_table.ensures c.if-is_table.false
 
-pub invariant-of-result : goal.invariant-of-result
-invariant-of-result c =
+pub invariant_of-result : goal.invariant_of-result
+invariant_of-result c =
     let m = c.is_table.ensures.0 c.if-is_table.true in
     (m.0 0 (lit< tt), (m.1.0, (λ k h. (m.1.1.0 k h).0, (λ k h. (m.1.1.0 k h).1, tt))))
 
-pub invariant-of-result-2 : goal.invariant-of-result-2
-invariant-of-result-2 c = (bare_sized, (bare_pairs, (bare_formed, (bare_ended, tt))))
+pub invariant_of-result-2 : goal.invariant_of-result-2
+invariant_of-result-2 c = (bare_sized, (bare_pairs, (bare_formed, (bare_ended, tt))))
