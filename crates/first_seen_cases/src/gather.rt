@@ -11,8 +11,8 @@ use first_seen::{Blank, Clearing, Noted, Same, note};
 pub struct Short;
 
 pub fn gather<T: Same + Blank>(rows: &mut [T], xs: &[T]) -> Result<usize, Short>
-    ensures value { result ≡ told (gathered alike (length rows.old) xs.now []) }
-    ensures blank { rows.new ≡ cleared blank rows.old }
+    ensures value { result ≡ told (gathered T.alike (length rows.old) xs.now []) }
+    ensures blank { rows.new ≡ cleared T.blank rows.old }
 {
     let mut guard = Clearing { rows };
     let mut n = 0;

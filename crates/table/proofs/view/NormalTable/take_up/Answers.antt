@@ -15,13 +15,13 @@ returns c =
 pub invariant_of-result : goal.invariant_of-result
 invariant_of-result c =
     let m = c.is_normal_table.ensures.0 c.if-is_normal_table.true in
-    (m.0 0 (lit< tt), (m.1.0, (λ k h. (m.1.1.0 k h).0, (λ k h. (m.1.1.0 k h).1, tt))))
+    record { sized = m.0 0 (lit< tt); pairs = m.1.0; formed = λ k h. (m.1.1.0 k h).0; ended = λ k h. (m.1.1.0 k h).1 }
 
 pub invariant_of-result-then-is_normal_table : goal.invariant_of-result-then-is_normal_table
-invariant_of-result-then-is_normal_table c = (∣ (c.is_normal_table.ensures.0 c.if-is_normal_table.true).1.1.1.0 ∣₁, tt)
+invariant_of-result-then-is_normal_table c = record { normal = ∣ (c.is_normal_table.ensures.0 c.if-is_normal_table.true).1.1.1.0 ∣₁ }
 
 pub invariant_of-result-2 : goal.invariant_of-result-2
-invariant_of-result-2 c = (bare_sized, (bare_pairs, (bare_formed, (bare_ended, tt))))
+invariant_of-result-2 c = record { sized = bare_sized; pairs = bare_pairs; formed = bare_formed; ended = bare_ended }
 
 pub invariant_of-result-3 : goal.invariant_of-result-3
-invariant_of-result-3 c = (∣ bare_normal ∣₁, tt)
+invariant_of-result-3 c = record { normal = ∣ bare_normal ∣₁ }

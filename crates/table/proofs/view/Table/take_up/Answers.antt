@@ -13,7 +13,7 @@ returns c = taken_bare (table_rules c.args.bytes.now) c.args.bytes.now c.is_tabl
 pub invariant_of-result : goal.invariant_of-result
 invariant_of-result c =
     let m = c.is_table.ensures.0 c.if-is_table.true in
-    (m.0 0 (lit< tt), (m.1.0, (λ k h. (m.1.1.0 k h).0, (λ k h. (m.1.1.0 k h).1, tt))))
+    record { sized = m.0 0 (lit< tt); pairs = m.1.0; formed = λ k h. (m.1.1.0 k h).0; ended = λ k h. (m.1.1.0 k h).1 }
 
 pub invariant_of-result-2 : goal.invariant_of-result-2
-invariant_of-result-2 c = (bare_sized, (bare_pairs, (bare_formed, (bare_ended, tt))))
+invariant_of-result-2 c = record { sized = bare_sized; pairs = bare_pairs; formed = bare_formed; ended = bare_ended }
