@@ -29,8 +29,8 @@ pub fn push_lines<L: Lines>(
     lines: &L,
     n: usize,
 ) -> Result<(), AllocError>
-    requires { (k : ℕ) → k < n → can lines.now k }
-    ensures { OnOk result (string_bytes out.new ≡ string_bytes out.old ++ flat_map (text lines.now) (range_with_len 0 n)) }
+    requires { (k : ℕ) → k < n → L.can lines.now k }
+    ensures { OnOk result (string_bytes out.new ≡ string_bytes out.old ++ flat_map (L.text lines.now) (range_with_len 0 n)) }
 {
     for k in 0..n {
         let piece = lines.line(heap, k)?;
