@@ -5,7 +5,7 @@ use Rattle.process_text.specs.Shown.{ShowsSteps}
 use Rattle.process_text.proofs.show_steps.Goals as goal
 
 pub returns-in_err-work : goal.returns-in_err-work
-returns-in_err-work c = IfOk-from_err _ _ c.from-residual-in_err-work.ensures.0
+returns-in_err-work c = IfOk-from_err _ _ c.from_residual-in_err-work.ensures.0
 
 pub returns : goal.returns
 returns c =

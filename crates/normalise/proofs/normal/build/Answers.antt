@@ -16,7 +16,7 @@ returns-in_err-len c =
     let B : Option ℕ → Type 0 =
     λ r. Built (Steps (table_lts c.args.table.now.bytes.now)) (start c.args.table.now.bytes.now) (length c.args.rows.now) (length c.args.out.now) c.args.out.now r in
     let M : ℕ → Type 0 = λ n. MoreThan (Steps (table_lts c.args.table.now.bytes.now)) (start c.args.table.now.bytes.now) n in
-    subst B (sym c.from-residual.ensures)
+    subst B (sym c.from_residual.ensures)
     (inl (subst M same (explored_more (Steps (table_lts c.args.table.now.bytes.now)) (start c.args.table.now.bytes.now) c.explore.new.rows c.in_err-len.ensures)))
 
 pub returns : goal.returns

@@ -12,11 +12,11 @@ steps-requires c =
     record { good = l.good; memo = l.memo; begun = l.begun; within = (model_row c.args.model.now c.begin.new.rows c.begin.new.work c.args.r l.begun c.requires.row).0 }
 
 pub returns-in_err-begin : goal.returns-in_err-begin
-returns-in_err-begin c = at_break _ _ _ c.from-residual.ensures.0 (λ room. c.in_err-begin.ensures (process (settled_file c.args.model.now) c.args.r) room)
+returns-in_err-begin c = at_break _ _ _ c.from_residual.ensures.0 (λ room. c.in_err-begin.ensures (process (settled_file c.args.model.now) c.args.r) room)
 
 pub returns-in_err-steps : goal.returns-in_err-steps
 returns-in_err-steps c =
-    at_break _ _ _ c.from-residual-in_err-steps.ensures.0 (refused_row c.args.model.now c.begin.new.rows c.begin.new.work c.args.r c.in_ok-begin.ensures c.requires.row _ c.begin.auto.rows c.in_err-steps.ensures)
+    at_break _ _ _ c.from_residual-in_err-steps.ensures.0 (refused_row c.args.model.now c.begin.new.rows c.begin.new.work c.args.r c.in_ok-begin.ensures c.requires.row _ c.begin.auto.rows c.in_err-steps.ensures)
 
 pub returns : goal.returns
 returns c =
