@@ -9,7 +9,7 @@ push_lines-requires c k h =
     let few = l.few in
     (slot_known _ _ _ _ _ _ x, omega arith)
 
-pub returns-in_ok-push_lines-in-Ok : goal.returns-in_ok-push_lines
+pub returns-in_ok-push_lines-in-Ok : goal.returns-in_ok-push_lines-in-Ok
 returns-in_ok-push_lines-in-Ok c =
     let x = c.in-Ok.ensures in
     shows _ _ _ _ c.list_steps.new.rows c.list_steps.new.work x _ _ c.in_ok-out-in-Ok.ensures.ok c.in_ok-push_lines-in-Ok.ensures
