@@ -1,9 +1,9 @@
 -- Two answers that are judged by the same rules are equal: a rule's first failing place is one place,
 -- and a rule that holds everywhere refuses nothing.
-use Rattle.std.proofs.Common.{◌≡◌, ℕ, ◌<◌, ◌⊎◌, List, [], ◌∷◌, Ok, Err, Result, sym, refl, ap, ◌∙◌, subst, inl, inr, ⊎_elim, arith}
+use Rattle.std.proofs.Common.{◌≡◌, ℕ, List, [], ◌∷◌, Ok, Err, sym, refl, ap, ◌∙◌, subst, inl, inr, ⊎_elim, arith}
 use Rattle.std.proofs.lemmas.Bool.{cases_order}
 use Rattle.fault.specs.declared.refusal.Fault.{Fault}
-use Rattle.fault.specs.First.{Below, FirstFail}
+use Rattle.fault.specs.First.{FirstFail}
 use Rattle.fault.specs.Judged.{Rule, Passes, Refused, Everywhere, Meets, FirstRefused, Judged, Exact, Answer, fault}
 
 pub first_once : (P : ℕ → Type 0) (n m p q : ℕ) → FirstFail P n p → FirstFail P m q → p ≡ q

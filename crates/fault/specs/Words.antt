@@ -1,5 +1,5 @@
 -- What a fault says to a person. Assumes nothing.
-use Rattle.std.specs.Prelude.{ℕ, cond, List, [], ◌∷◌, ◌++◌, length, codes, decimal, ◌==◌}
+use Rattle.std.specs.Prelude.{ℕ, cond, List, ◌++◌, length, codes, decimal, ◌==◌}
 use Rattle.fault.specs.declared.refusal.Fault.{Fault}
 use Rattle.fault.specs.declared.refusal.Refusal.{Refusal}
 use Rattle.fault.specs.declared.refusal.Refusal.TheVariants.{FileLength, FileHead, FilePair, FileMask, FileRow, FileRepeat, FileHeight, FileDefinition, ModelOpen, ProcessRow, ProcessRoom, TableLength, TablePair, TableStep, TableNormal, NormaliseStates, NormaliseRoom, SystemEvents, SearchRows, SearchBudget, SearchLent, SearchFull, TraceBuffer, AuditStart, AuditEvent, AuditPair, ScriptLine}

@@ -1,9 +1,9 @@
 -- Laws of bits: none in 0, one in a power, those of either in a union, and none from k on below 2 ^ k.
-use Rattle.std.proofs.Common.{◌≡◌, ℕ, zero, suc, ◌+◌, ◌-◌, ◌*◌, ◌/◌, ◌%◌, ◌^◌, ◌<◌, ◌≤◌, max, Bool, true, false, ◌||◌, eqb, ◌⊎◌, Decides, sym, refl, ap, ◌∙◌, inl, inr, ⊎_elim, add-one, arith, lit<, pow_mono}
+use Rattle.std.proofs.Common.{◌≡◌, ℕ, zero, suc, ◌+◌, ◌-◌, ◌*◌, ◌/◌, ◌%◌, ◌^◌, ◌<◌, ◌≤◌, max, true, false, ◌||◌, eqb, Decides, sym, refl, ap, ◌∙◌, ⊎_elim, add-one, arith, lit<, pow_mono}
 use native.Mathlib.Nat.{zero-div, div_self, div-eq_of_lt-le}
 use lib.Bits.{bit_or, or_step}
 use Rattle.std.proofs.lemmas.Nat.{pow_pos, pow-add, or_shr, pow_below, div-add-mod', mod_below, shl-shr, leading_top, div_below}
-use Rattle.std.proofs.lemmas.Bool.{cases_lt, cases_order, eqb-true, eq-eqb, ne_eqb, both_ways}
+use Rattle.std.proofs.lemmas.Bool.{cases_lt, cases_order, both_ways}
 use Rattle.lent_bytes.specs.Bits.{bit}
 
 -- a number whose shift by k leaves nothing is below 2 ^ k

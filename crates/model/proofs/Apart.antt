@@ -1,13 +1,13 @@
 -- The eight bytes of a well-formed row are told by the row that they stand for, so rows with different bytes
 -- are different rows.
-use Rattle.std.proofs.Common.{◌≡◌, ℕ, zero, suc, ◌+◌, ◌*◌, ◌^◌, ◌<◌, List, Some, None, Option, sym, refl, ap, ◌∙◌, subst, add_assoc, arith}
+use Rattle.std.proofs.Common.{◌≡◌, ℕ, zero, suc, ◌+◌, ◌*◌, List, sym, ap, ◌∙◌, add_assoc, arith}
 use Rattle.lent_bytes.specs.Reads.{be}
 use Rattle.lent_bytes.proofs.Parts.{be_two, be_four, be_eight}
 use Rattle.model.specs.declared.op.Op.{Op}
 use Rattle.model.specs.declared.op.Op.TheVariants.{Stop, Skip, Omega, Prefix, External, Internal, Sequence, Parallel, Hide, Interrupt, Name}
 use Rattle.model.specs.declared.op.Row.{Row}
 use Rattle.model.specs.Ops.{op_of}
-use Rattle.model.specs.File.{row_place_lem, row_bytes_lem, kind_at, argument_at_lem, left_at_lem, right_at_lem, spare_at_lem, op_at_lem, row_from, row_at}
+use Rattle.model.specs.File.{row_place_lem, row_bytes_lem, kind_at, argument_at_lem, left_at_lem, right_at_lem, spare_at_lem, row_from, row_at}
 use Rattle.model.specs.Rules.{Shaped, RowOk}
 
 abbrev number : ℕ → ℕ → ℕ → ℕ → ℕ → ℕ

@@ -1,13 +1,13 @@
 -- The terms of rows: appending keeps every earlier term, so a row's term is its operator over the terms of
 -- its parts.
-use Rattle.std.proofs.Common.{◌≡◌, ℕ, zero, suc, ◌+◌, ◌<◌, ◌≤◌, max, List, [], ◌∷◌, ◌++◌, length, get_or, sym, refl, ap, ◌∙◌, subst, add-zero, zero-add, arith}
+use Rattle.std.proofs.Common.{◌≡◌, ℕ, zero, suc, ◌+◌, ◌<◌, List, [], ◌∷◌, ◌++◌, length, get_or, sym, refl, ap, ◌∙◌, add-zero, zero-add, arith}
 use Rattle.std.proofs.lemmas.List.{get_or_append_left, get_or_push, length_push}
 use Rattle.model.specs.declared.op.Use.{Use}
 use Rattle.model.specs.declared.op.Use.TheVariants.{Unused, Event, Mask, Part, Definition}
 use Rattle.model.specs.declared.op.Row.{Row}
 use Rattle.model.specs.Ops.{shape}
-use Rattle.model.specs.Terms.{Term, none, node, height}
-use Rattle.model.specs.Rows.{blank, part_of, left_of, right_of, term_of, build, terms, term_at, PartIn, Fits, AllFit}
+use Rattle.model.specs.Terms.{Term, none, node}
+use Rattle.model.specs.Rows.{blank, part_of, term_of, build, terms, term_at, PartIn, Fits, AllFit}
 
 pub build_length : (ts : List Term) (rs : List Row) → length (build ts rs) ≡ length ts + length rs
 build_length ts [] = sym (add-zero (length ts))

@@ -1,17 +1,16 @@
 -- What a well-formed file's bytes are known to be; the file without rows has it all, since it has no rows.
-use Rattle.std.proofs.Common.{◌≡◌, ℕ, zero, suc, ◌+◌, ◌*◌, ◌/◌, ◌<◌, ◌≤◌, List, length, get_or, Some, None, Option, sym, refl, ap, ◌∙◌, subst, arith, lit<, lit≤}
+use Rattle.std.proofs.Common.{◌≡◌, ℕ, zero, suc, ◌+◌, ◌<◌, ◌≤◌, List, Some, None, Option, sym, refl, subst, arith, lit<, lit≤}
 use Rattle.lent_bytes.specs.Reads.{be}
-use Rattle.fault.specs.Judged.{Everywhere, Meets}
+use Rattle.fault.specs.Judged.{Meets}
 use Rattle.model.specs.declared.op.Op.{Op}
 use Rattle.model.specs.declared.op.Op.TheVariants.{Stop, Skip, Omega, Prefix, External, Internal, Sequence, Parallel, Hide, Interrupt, Name}
 use Rattle.model.specs.declared.op.Use.{Use}
 use Rattle.model.specs.declared.op.Use.TheVariants.{Unused, Event, Mask, Part, Definition}
-use Rattle.model.specs.declared.op.Row.{Row}
 use Rattle.model.specs.Ops.{shape, op_of}
 use Rattle.model.specs.Rows.{PartIn, Fits, AllFit}
-use Rattle.model.specs.File.{events, masks, rows, definitions, kind_at, argument_at_lem, left_at_lem, right_at_lem, op_at_lem, part_field_lem, row_from, row_at, rows_of}
+use Rattle.model.specs.File.{events, rows, definitions, kind_at, argument_at_lem, left_at_lem, right_at_lem, op_at_lem, part_field_lem, row_from, row_at, rows_of}
 use Rattle.model.specs.Rules.{FieldsOk, Shaped, RowOk, file_rules, settle_rules}
-use Rattle.model.specs.Sound.{Few, LeftBefore, RightBefore, Visible, Known, Named, Lower, Facts, empty_file}
+use Rattle.model.specs.Sound.{LeftBefore, RightBefore, Lower, Facts, empty_file}
 use Rattle.model.proofs.Apart.{bytes_same}
 use Rattle.model.proofs.Formed.{row_fits, rows_length, rows_at}
 

@@ -1,18 +1,15 @@
 -- What the row rule gives: the rows of the file have their parts before them, so a process is its operator
 -- over the processes of its parts.
-use Rattle.std.proofs.Common.{◌≡◌, ℕ, ◌+◌, ◌<◌, List, map, length, get_or, Some, None, Option, sym, refl, ap, ◌∙◌, subst, zero-add, arith}
-use Rattle.std.specs.List.{range_with_len}
+use Rattle.std.proofs.Common.{◌≡◌, ℕ, ◌<◌, List, length, get_or, Some, None, Option, sym, refl, ap, ◌∙◌, subst, zero-add, arith}
 use Rattle.std.proofs.lemmas.List.FromFn.{length-map-range_with_len, get_or-map-range_with_len}
 use Rattle.fault.specs.Judged.{Everywhere}
 use Rattle.model.specs.declared.op.Op.{Op}
-use Rattle.model.specs.declared.op.Row.{Row}
 use Rattle.model.specs.declared.op.Use.{Use}
 use Rattle.model.specs.declared.op.Use.TheVariants.{Unused, Event, Mask, Part, Definition}
 use Rattle.model.specs.Ops.{shape}
-use Rattle.model.specs.Terms.{Term, node}
-use Rattle.model.specs.Rows.{blank, term_of, terms, term_at, PartIn, Fits, AllFit}
-use Rattle.model.specs.File.{rows, left_at_lem, right_at_lem, op_at_lem, part_field_lem, row_with_lem, row_from, row_at, rows_of, process}
-use Rattle.model.specs.Rules.{FieldOk, FieldsOk, Shaped, RowOk, row_rule}
+use Rattle.model.specs.Rows.{blank, term_of, terms, PartIn, Fits, AllFit}
+use Rattle.model.specs.File.{rows, left_at_lem, right_at_lem, part_field_lem, row_from, row_at, rows_of, process}
+use Rattle.model.specs.Rules.{FieldOk, Shaped, RowOk, row_rule}
 use Rattle.model.proofs.Denoted.{row_term}
 
 pub rows_length : (b : List ℕ) → length (rows_of b) ≡ rows b

@@ -1,6 +1,6 @@
 -- The definitions open in a row, from those of its parts: what each operator has open is the union, the
 -- left, its own, or nothing.
-use Rattle.std.proofs.Common.{◌≡◌, ℕ, ◌^◌, ◌<◌, ◌≤◌, Bool, true, false, cond, ◌||◌, ltb, ◌⊎◌, List, get_or, Decides, sym, refl, ap, ◌∙◌, subst, inl, inr, ⊎_elim, arith}
+use Rattle.std.proofs.Common.{◌≡◌, ℕ, ◌^◌, ◌<◌, ◌≤◌, cond, ltb, ◌⊎◌, List, get_or, sym, refl, ap, subst, inl, inr, ⊎_elim, arith}
 use lib.Bits.{bit_or}
 use Rattle.std.proofs.lemmas.Bool.Decides.{Decides-at, Decides-like, Decides-or}
 use Rattle.std.proofs.lemmas.Bool.{lt-ltb, cond-true, both_ways}
@@ -12,8 +12,8 @@ use Rattle.model.specs.declared.op.Use.{Use}
 use Rattle.model.specs.declared.op.Use.TheVariants.{Part}
 use Rattle.model.specs.declared.op.Row.{Row}
 use Rattle.model.specs.Ops.{shape}
-use Rattle.model.specs.Terms.{Term, none, node, Open, name, sequence, hiding, external_left, external_right, parallel_left, parallel_right, interrupt_left, interrupt_right}
-use Rattle.model.specs.Opening.{OpenBits, open_set_lem, open_of, OpenedAs, OpenedBelow}
+use Rattle.model.specs.Terms.{Term, node, Open, name, sequence, hiding, external_left, external_right, parallel_left, parallel_right, interrupt_left, interrupt_right}
+use Rattle.model.specs.Opening.{OpenBits, open_set_lem, OpenedAs, OpenedBelow}
 use Rattle.model.specs.Rows.{part_of, left_of, right_of, term_of, terms, PartIn, AllFit}
 use Rattle.model.specs.File.{rows, row_at, rows_of, process, definitions}
 use Rattle.model.specs.Sound.{Named}

@@ -1,11 +1,11 @@
 -- The height of a row's process, from the heights of the rows before it.
-use Rattle.std.proofs.Common.{◌≡◌, ℕ, ◌+◌, ◌<◌, ◌≤◌, max, List, get_or, sym, refl, ap, ◌∙◌, arith}
+use Rattle.std.proofs.Common.{◌≡◌, ℕ, ◌+◌, ◌<◌, max, List, get_or, sym, refl, ap, ◌∙◌}
 use Rattle.model.specs.declared.op.Use.{Use}
 use Rattle.model.specs.declared.op.Use.TheVariants.{Unused, Event, Mask, Part, Definition}
 use Rattle.model.specs.declared.op.Row.{Row}
 use Rattle.model.specs.declared.op.Shape.{Shape}
 use Rattle.model.specs.Ops.{shape}
-use Rattle.model.specs.Terms.{Term, none, height}
+use Rattle.model.specs.Terms.{height}
 use Rattle.model.specs.Rows.{part_of, left_of, right_of, terms, PartIn, AllFit}
 use Rattle.model.specs.File.{rows, row_at, rows_of, process}
 use Rattle.model.specs.Tall.{height_field}

@@ -1,5 +1,5 @@
 -- The bytes of a model file: its sections, masks, rows and definitions. Assumes nothing.
-use Rattle.std.specs.Prelude.{◌≡◌, ℕ, zero, suc, ◌+◌, ◌*◌, ◌/◌, ◌%◌, ◌^◌, ◌<◌, ◌≤◌, List, [], ◌∷◌, map, length, Some, None, Option, slice_index}
+use Rattle.std.specs.Prelude.{ℕ, zero, suc, ◌+◌, ◌*◌, ◌/◌, List, map, Some, None, Option, slice_index}
 use Rattle.std.specs.List.{range_with_len}
 use Rattle.lent_bytes.specs.Reads.{be}
 use Rattle.model.specs.declared.op.Op.{Op}

@@ -1,6 +1,6 @@
 -- When a model file is well formed, and when a model is settled: one condition for each refusal, in the
 -- order in which they are tried. Assumes nothing.
-use Rattle.std.specs.Prelude.{◌≡◌, ℕ, zero, suc, ◌+◌, ◌*◌, ◌/◌, ◌%◌, ◌^◌, ◌<◌, ◌≤◌, List, [], ◌∷◌, length, Some, None, Option, ◌≢◌, slice_index_or}
+use Rattle.std.specs.Prelude.{◌≡◌, ℕ, zero, suc, ◌+◌, ◌/◌, ◌%◌, ◌^◌, ◌<◌, ◌≤◌, List, [], ◌∷◌, length, Some, None, Option, ◌≢◌, slice_index_or}
 use Rattle.lent_bytes.specs.Reads.{be}
 use Rattle.fault.specs.First.{Below}
 use Rattle.fault.specs.Judged.{Rule, rule}

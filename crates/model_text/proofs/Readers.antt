@@ -1,5 +1,5 @@
 -- A reader that answers within a bound gives the value there.
-use Rattle.std.proofs.Common.{◌≡◌, ℕ, ◌<◌, cond, ltb, Some, None, Option, unwrap_or, sym, ap, ◌∙◌}
+use Rattle.std.proofs.Common.{◌≡◌, ℕ, ◌<◌, cond, ltb, Some, None, Option, unwrap_or, ap, ◌∙◌}
 use Rattle.std.proofs.lemmas.Bool.{cond-true, lt-ltb}
 
 same_some : {X : Type 0} (x y : X) → Some x ≡ Some y → x ≡ y

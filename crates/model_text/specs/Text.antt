@@ -1,5 +1,5 @@
 -- A model as text: its alphabet, masks, rows and definitions in the usual notation of CSP. Assumes nothing.
-use Rattle.std.specs.Prelude.{◌≡◌, ℕ, ◌+◌, ◌%◌, ◌^◌, Bool, true, false, cond, List, [], ◌∷◌, ◌++◌, codes, decimal, ◌==◌}
+use Rattle.std.specs.Prelude.{◌≡◌, ℕ, ◌+◌, ◌%◌, ◌^◌, cond, List, [], ◌++◌, codes, decimal, ◌==◌}
 use Rattle.std.specs.List.{range_with_len, flat_map}
 use Rattle.lent_bytes.specs.Bits.{bit}
 use Rattle.fault.specs.declared.refusal.Fault.{Fault}

@@ -1,5 +1,5 @@
 -- What the filling of a buffer answers for the table taken up is what it answers for the bytes given.
-use Rattle.std.proofs.Common.{◌≡◌, ℕ, ◌≤◌, min, List, Ok, Err, Result, sym, subst, inr}
+use Rattle.std.proofs.Common.{◌≡◌, ℕ, ◌≤◌, min, List, Ok, Err, Result, subst, inr}
 use Rattle.fault.specs.declared.refusal.Fault.{Fault}
 use Rattle.fault.specs.Judged.{Meets}
 use Rattle.table.specs.Form.{states, start}

@@ -1,15 +1,15 @@
 -- All nodes written are all there is: the table is theirs, and nothing larger was wanted.
-use Rattle.std.proofs.Common.{◌≡◌, ℕ, ◌+◌, ◌*◌, ◌<◌, ◌≤◌, min, ◌⊎◌, List, [], length, take, Some, None, Option, sym, refl, ap, ◌∙◌, subst, inl, inr, arith}
+use Rattle.std.proofs.Common.{◌≡◌, ℕ, min, List, length, take, Some, None, Option, sym, subst, inl, inr, arith}
 use Rattle.std.specs.List.{slice_get}
 use Rattle.std.proofs.lemmas.List.{length-take}
 use Rattle.table.specs.Steps.{Lawful as TableLawful}
-use Rattle.systems.specs.Meaning.{Lawful, Steps}
+use Rattle.systems.specs.Meaning.{Steps}
 use Rattle.systems.specs.Tables.{table_lts}
 use Rattle.systems.proofs.Entries.{some_not_none}
 use Rattle.systems.proofs.Tabling.{table_lawful}
 use Rattle.sets.specs.declared.state_set.StateSet.{StateSet}
 use Rattle.normalise.specs.Closure.{Rel}
-use Rattle.normalise.specs.Made.{Whole, TableMade, TableWritten, Filled, Built}
+use Rattle.normalise.specs.Made.{TableMade, TableWritten, Filled, Built}
 use Rattle.normalise.specs.Nodes.{Found}
 use Rattle.normalise.specs.Rooms.{Wants}
 use Rattle.normalise.proofs.Finals.{KeptLaw, normal_of}

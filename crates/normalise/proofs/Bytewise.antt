@@ -1,7 +1,7 @@
 -- A number read from bytes that did not change is the same, and one that was written is the value.
-use Rattle.std.proofs.Common.{◌≡◌, ℕ, zero, suc, ◌+◌, ◌*◌, ◌/◌, ◌%◌, ◌<◌, ◌≤◌, ◌⊎◌, List, length, get_or, set, sym, refl, ap, ◌∙◌, subst, ap₂, inl, inr, ⊎_elim, add_assoc, arith, length-set, get_or-set_other, get_or-set_same}
+use Rattle.std.proofs.Common.{◌≡◌, ℕ, zero, suc, ◌+◌, ◌*◌, ◌<◌, ◌≤◌, ◌⊎◌, List, length, get_or, set, refl, ◌∙◌, ap₂, inl, inr, ⊎_elim, arith, length-set, get_or-set_other, get_or-set_same}
 use Rattle.lent_bytes.specs.Reads.{be}
-use Rattle.lent_bytes.proofs.Parts.{be_two, be_four, be_more}
+use Rattle.lent_bytes.proofs.Parts.{be_two, be_four}
 use Rattle.normalise.specs.Puts.{Kept, Put, PairPut, StepPut}
 
 pub be_agree : (b c : List ℕ) (i n : ℕ) → ((j : ℕ) → i ≤ j → j < i + n → get_or b j 0 ≡ get_or c j 0) → be b i n ≡ be c i n

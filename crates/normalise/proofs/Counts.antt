@@ -1,19 +1,15 @@
 -- The steps written stand in the order of node and event, so no two are of one node and one event; more steps than places would put two at one place.
-use Rattle.std.proofs.Common.{◌≡◌, ℕ, zero, suc, ◌+◌, ◌-◌, ◌*◌, ◌<◌, ◌≤◌, min, ◌⊎◌, List, length, get_or, sym, refl, ap, ◌∙◌, subst, inl, inr, ⊎_elim, arith}
+use Rattle.std.proofs.Common.{◌≡◌, ℕ, zero, suc, ◌+◌, ◌-◌, ◌*◌, ◌<◌, ◌≤◌, ◌⊎◌, List, get_or, sym, refl, ap, ◌∙◌, subst, inl, inr, ⊎_elim, arith}
 use Rattle.std.proofs.lemmas.Bool.{cases_eq, cases_lt, cases_order}
 use Rattle.table.specs.Form.{offset, size, floor}
 use Rattle.sets.specs.declared.state_set.StateSet.{StateSet}
-use Rattle.sets.specs.Members.{In}
-use Rattle.sets.specs.Preds.{Pred, Alike}
+use Rattle.sets.specs.Preds.{Alike}
 use Rattle.normalise.specs.Closure.{Rel, next}
-use Rattle.normalise.specs.Nodes.{unset, at, Place, Earlier, Found, Goes, Node, MoreThan}
+use Rattle.normalise.specs.Nodes.{unset, at, Earlier, Found}
 use Rattle.normalise.specs.Rooms.{Nodes, Edges, TooLarge}
-use Rattle.normalise.specs.Writing.{ev, tg, Entry, Listing, Written, Head, Under}
-use Rattle.normalise.proofs.Afters.{next_alike}
-use Rattle.normalise.proofs.Closes.{alike_chain}
+use Rattle.normalise.specs.Writing.{ev, Entry, Written, Under}
 use Rattle.normalise.proofs.Explores.{alike_flip}
-use Rattle.normalise.proofs.Pigeons.{pigeon, node_of, found_few}
-use Rattle.normalise.proofs.Walks.{after_place}
+use Rattle.normalise.proofs.Pigeons.{node_of}
 
 module _ (R : Rel) (rows : List StateSet) (len : ℕ) (b : List ℕ) (a m : ℕ) (w : Written R rows len b a m) where
   -- the node and the place in its list of a step

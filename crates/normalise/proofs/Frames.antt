@@ -1,12 +1,12 @@
 -- A step or a pair that is written leaves what was written before, so the lists grow step by step and node by node.
-use Rattle.std.proofs.Common.{◌≡◌, ℕ, zero, suc, ◌+◌, ◌*◌, ◌<◌, ◌≤◌, ◌⊎◌, List, length, get_or, sym, refl, ap, ◌∙◌, subst, ap₂, inl, inr, ⊎_elim, add-zero, add-one, arith}
-use Rattle.std.proofs.lemmas.Bool.{cases_eq, cases_lt}
+use Rattle.std.proofs.Common.{◌≡◌, ℕ, zero, suc, ◌+◌, ◌*◌, ◌<◌, ◌≤◌, ◌⊎◌, List, length, sym, refl, ap, ◌∙◌, subst, ap₂, inl, inr, ⊎_elim, add-zero, add-one, arith}
+use Rattle.std.proofs.lemmas.Bool.{cases_eq}
 use Rattle.lent_bytes.specs.Reads.{be}
-use Rattle.table.specs.Form.{states, start, offset, size, floor}
+use Rattle.table.specs.Form.{offset, size, floor}
 use Rattle.sets.specs.declared.state_set.StateSet.{StateSet}
 use Rattle.normalise.specs.Closure.{Rel, next}
 use Rattle.normalise.specs.Nodes.{at, Goes}
-use Rattle.normalise.specs.Puts.{Kept, Put, PairPut, StepPut}
+use Rattle.normalise.specs.Puts.{Kept, PairPut, StepPut}
 use Rattle.normalise.specs.Writing.{ev, sp, tg, Entry, Listing, Written, Head, Under}
 use Rattle.normalise.proofs.Bytewise.{kept_be}
 

@@ -1,16 +1,16 @@
 -- Once the number of steps stands in the head, the bytes up to the last step are the whole table, and nothing larger was wanted.
-use Rattle.std.proofs.Common.{◌≡◌, ℕ, zero, suc, ◌+◌, ◌*◌, ◌<◌, ◌≤◌, min, ◌⊎◌, List, length, get_or, take, sym, refl, ap, ◌∙◌, subst, inl, inr, ⊎_elim, arith}
+use Rattle.std.proofs.Common.{◌≡◌, ℕ, zero, suc, ◌+◌, ◌*◌, ◌<◌, ◌≤◌, List, length, get_or, take, sym, refl, ◌∙◌, subst, inl, inr, ⊎_elim, arith}
 use Rattle.std.proofs.lemmas.List.{get_or-take, length-take}
 use Rattle.std.proofs.lemmas.Bool.{cases_lt, cases_order}
 use Rattle.lent_bytes.specs.Reads.{be}
-use Rattle.table.specs.Form.{states, start, all_steps, offset, size, floor}
+use Rattle.table.specs.Form.{offset, size}
 use Rattle.sets.specs.declared.state_set.StateSet.{StateSet}
 use Rattle.sets.specs.Members.{In}
 use Rattle.sets.specs.Preds.{Pred, Alike}
-use Rattle.normalise.specs.Closure.{Rel, next}
-use Rattle.normalise.specs.Made.{Whole, TableMade}
-use Rattle.normalise.specs.Nodes.{unset, at, Place, Found, MoreThan}
-use Rattle.normalise.specs.Puts.{Kept, Put}
+use Rattle.normalise.specs.Closure.{Rel}
+use Rattle.normalise.specs.Made.{TableMade}
+use Rattle.normalise.specs.Nodes.{at, Found}
+use Rattle.normalise.specs.Puts.{Put}
 use Rattle.normalise.specs.Rooms.{Nodes, Edges, TooLarge}
 use Rattle.normalise.specs.Writing.{ev, Head, Written}
 use Rattle.normalise.proofs.Afters.{next_alike}

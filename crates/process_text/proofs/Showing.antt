@@ -1,13 +1,11 @@
 -- A row whose steps were listed is one of the model's, so it has a slot, and its lines are those of the slot's steps.
-use Rattle.std.proofs.Common.{◌≡◌, ℕ, ◌+◌, ◌*◌, ◌<◌, ◌≤◌, ◌⊎◌, List, [], ◌∷◌, ◌++◌, length, get_or, take, drop, Ok, Err, vec_items, vec_len, Result, sym, refl, ap, ◌∙◌, ⊎_elim, arith}
+use Rattle.std.proofs.Common.{◌≡◌, ℕ, ◌+◌, ◌*◌, ◌<◌, ◌≤◌, List, [], ◌++◌, length, get_or, Ok, Err, vec_items, vec_len, Result, ap, ◌∙◌, ⊎_elim, arith}
 use Rattle.std.specs.List.{range_with_len, flat_map}
 use Rattle.std.proofs.lemmas.List.{length-append, length-take}
 use Rattle.std.proofs.lemmas.Bool.{cases_lt}
-use Rattle.fault.specs.declared.refusal.Fault.{Fault}
 use Rattle.model.specs.declared.op.Row.{Row}
 use Rattle.model.specs.File.{rows, rows_of}
 use Rattle.model.proofs.Formed.{rows_length}
-use Rattle.process.specs.declared.step.Step.{Step}
 use Rattle.process.specs.declared.work.Workspace.{Workspace}
 use Rattle.process.specs.Listed.{ListedAt, StepsListed}
 use Rattle.process.specs.Slots.{blank_step, slot}

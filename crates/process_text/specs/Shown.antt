@@ -1,5 +1,5 @@
 -- The steps of a row of a model as text. Assumes nothing.
-use Rattle.std.specs.Prelude.{◌≡◌, ℕ, ◌<◌, ◌≤◌, List, [], ◌∷◌, ◌++◌, take, codes, decimal, slice_index_or}
+use Rattle.std.specs.Prelude.{◌≡◌, ℕ, ◌<◌, ◌≤◌, List, ◌++◌, take, codes, decimal, slice_index_or}
 use Rattle.std.specs.List.{flat_map}
 use Rattle.fault.specs.Listing.{number}
 use Rattle.fault.specs.Words.{told}

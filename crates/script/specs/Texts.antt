@@ -1,5 +1,5 @@
 -- The lines that are written. Assumes nothing.
-use Rattle.std.specs.Prelude.{ℕ, List, [], ◌∷◌, ◌++◌, Some, None, codes, decimal, Option}
+use Rattle.std.specs.Prelude.{ℕ, List, ◌++◌, Some, None, codes, decimal, Option}
 use Rattle.std.specs.List.{flat_map}
 use Rattle.fault.specs.Listing.{number}
 use Rattle.fault.specs.declared.refusal.Fault.{Fault}

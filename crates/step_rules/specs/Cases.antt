@@ -1,5 +1,5 @@
 -- Worked cases: the lists of a few processes, from the definitions. Assumes nothing.
-use Rattle.std.specs.Prelude.{ℕ, Bool, ◌&&◌, List, [], ◌∷◌, ◌==◌}
+use Rattle.std.specs.Prelude.{◌&&◌, List, [], ◌∷◌, ◌==◌}
 use Rattle.model.specs.declared.op.Op.TheVariants.{Stop, Skip, Prefix, External, Sequence, Parallel, Hide, Name}
 use Rattle.model.specs.Terms.{Term, none, node}
 use Rattle.step_rules.specs.Derives.{joint_termination, Env, ended}

@@ -1,5 +1,5 @@
 -- The bare table meets every rule: its one pair is empty and it has no steps.
-use Rattle.std.proofs.Common.{◌≡◌, ℕ, zero, suc, ◌<◌, ◌≤◌, List, [], Some, refl, ◌∙◌, ⊎_elim, arith, lit<, lit≤}
+use Rattle.std.proofs.Common.{◌≡◌, ℕ, zero, suc, ◌<◌, [], Some, refl, ◌∙◌, ⊎_elim, arith, lit<, lit≤}
 use Rattle.std.specs.List.{slice_get}
 use Rattle.std.proofs.lemmas.List.{nil_from_length}
 use Rattle.std.proofs.lemmas.Bool.{cases_lt}
@@ -7,10 +7,10 @@ use Rattle.fault.specs.First.{Below}
 use Rattle.fault.specs.Judged.{Everywhere}
 use Rattle.lent_bytes.specs.Reads.{be}
 use Rattle.table.specs.declared.step.Step.{Step}
-use Rattle.table.specs.Form.{states, start, all_steps, size, steps_of}
+use Rattle.table.specs.Form.{states, all_steps, size, steps_of}
 use Rattle.table.specs.Rules.{Sized, Formed, Ended, PairOk, pair_rule, normal_rule}
 use Rattle.table.specs.Taken.{bare, Bare}
-use Rattle.table.proofs.Entries.{Placed, placed, steps_length, steps_out}
+use Rattle.table.proofs.Entries.{placed, steps_length, steps_out}
 
 pub bare_sized : Sized bare
 unfolding be

@@ -1,6 +1,6 @@
 -- Entry k of a state's list is the step at the k-th place from the state's offset on, so what the check
 -- has found of every pair and every step holds of every entry.
-use Rattle.std.proofs.Common.{◌≡◌, ℕ, ◌+◌, ◌<◌, ◌≤◌, max, Bool, ltb, List, [], length, Some, None, Decides, Option, sym, refl, ap, ◌∙◌, subst, ⊎_elim, arith}
+use Rattle.std.proofs.Common.{◌≡◌, ℕ, ◌+◌, ◌<◌, ◌≤◌, Bool, ltb, List, [], length, Some, None, Decides, sym, refl, ap, ◌∙◌, subst, ⊎_elim, arith}
 use Rattle.std.specs.List.{slice_get}
 use Rattle.std.proofs.lemmas.List.FromFn.{length-map-range_with_len, get_or-map-range_with_len}
 use Rattle.std.proofs.lemmas.List.{nil_from_length}
@@ -10,10 +10,10 @@ use Rattle.std.proofs.lemmas.Bool.Decides.{Decides-like}
 use Rattle.fault.specs.First.{Below}
 use Rattle.fault.specs.Judged.{Everywhere}
 use Rattle.table.specs.declared.step.Step.{Step}
-use Rattle.table.specs.Form.{states, start, all_steps, offset, size, event, target, step, steps_from, steps_of}
+use Rattle.table.specs.Form.{states, all_steps, offset, size, event, step, steps_from, steps_of}
 use Rattle.table.specs.Met.{Fresh}
 use Rattle.table.specs.Rules.{PairOk, Formed, Ended, NormalAt, pair_rule, normal_rule}
-use Rattle.table.specs.Steps.{NoTau, NoneTwice, Lawful, Lone}
+use Rattle.table.specs.Steps.{Lawful, Lone}
 
 pub some_same : {X : Type 0} (x y : X) → Some x ≡ Some y → x ≡ y
 some_same x y e = cc

@@ -1,6 +1,6 @@
 -- The first entry with an event is found by going on while the entry has another event; what is left
 -- of the list then leads where the whole does.
-use Rattle.std.proofs.Common.{◌≡◌, ℕ, zero, suc, ◌+◌, ◌<◌, ◌≤◌, Bool, true, false, cond, eqb, List, [], ◌∷◌, length, get_or, drop, Some, None, Option, sym, refl, ap, ◌∙◌, subst, ⊎_elim, arith}
+use Rattle.std.proofs.Common.{◌≡◌, ℕ, zero, suc, ◌+◌, ◌≤◌, Bool, true, false, cond, eqb, List, [], ◌∷◌, length, get_or, drop, Some, None, Option, sym, refl, ap, ◌∙◌, subst, ⊎_elim, arith}
 use mathlib.Core.Logic.{∥∥₁_elim}
 use std.HLevel.{⊥_prop}
 use base.Stored.{Coded-set, coded_ℕ}
@@ -10,10 +10,9 @@ use Rattle.std.proofs.lemmas.Option.{slice_get-get_or}
 use Rattle.std.proofs.lemmas.Bool.{cases_lt, cond-true, cond-false, eq-eqb, ne_eqb, eqb-true, eqb-false}
 use Rattle.fault.specs.Judged.{Everywhere}
 use Rattle.table.specs.declared.step.Step.{Step}
-use Rattle.table.specs.Form.{steps_of}
 use Rattle.table.specs.Rules.{normal_rule}
 use Rattle.table.specs.Steps.{NoneTwice, Lone, follow, Leads}
-use Rattle.table.proofs.Entries.{some_same, some_not_none, nth_within, placed, lone}
+use Rattle.table.proofs.Entries.{some_same, some_not_none, nth_within, lone}
 
 pub past_none : {X : Type 0} (xs : List X) (k : ℕ) → slice_get xs k ≡ None → length xs ≤ k
 past_none [] k e = omega arith

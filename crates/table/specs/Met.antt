@@ -1,6 +1,6 @@
 -- Events at the places of a list: no tau and no event twice, told by places; and the bits of a
 -- number. Assumes nothing.
-use Rattle.std.specs.Prelude.{◌≡◌, ℕ, ◌/◌, ◌%◌, ◌^◌, ◌<◌, ◌≢◌}
+use Rattle.std.specs.Prelude.{ℕ, ◌/◌, ◌%◌, ◌^◌, ◌<◌, ◌≢◌}
 
 -- of the events at the first n places none is tau, and no two are the same
 pub record Fresh (at : ℕ → ℕ) (n : ℕ) : Type 0 where

@@ -1,4 +1,4 @@
-use Rattle.std.proofs.Common.{◌≡◌, ℕ, List, ◌++◌, IfOk, string_bytes, codes, decimal, subst}
+use Rattle.std.proofs.Common.{◌≡◌, ℕ, ◌++◌, IfOk, string_bytes, codes, decimal, subst}
 use Rattle.fault.specs.Words.{told}
 use Rattle.model_text.specs.Text.{refused_text_lem}
 use Rattle.model_text.proofs.refused_text.Goals as goal

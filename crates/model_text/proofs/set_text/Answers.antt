@@ -1,4 +1,4 @@
-use Rattle.std.proofs.Common.{◌≡◌, ℕ, List, ◌++◌, codes, ap, ◌∙◌, append_assoc}
+use Rattle.std.proofs.Common.{ℕ, List, ◌++◌, codes, ap, ◌∙◌, append_assoc}
 use Rattle.std.specs.List.{range_with_len, flat_map}
 use Rattle.model_text.specs.Text.{member_text, set_text_lem}
 use Rattle.model_text.proofs.set_text.Goals as goal

@@ -1,4 +1,4 @@
-use Rattle.std.proofs.Common.{◌≡◌, ℕ, List, ◌++◌, IfOk, string_bytes, codes, decimal, subst}
+use Rattle.std.proofs.Common.{◌≡◌, ℕ, ◌++◌, IfOk, string_bytes, codes, decimal, subst}
 use Rattle.fault.specs.Words.{told}
 use Rattle.process_text.specs.Shown.{refused_steps_text}
 use Rattle.process_text.proofs.refused_steps.Goals as goal

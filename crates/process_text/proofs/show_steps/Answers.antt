@@ -1,4 +1,4 @@
-use Rattle.std.proofs.Common.{◌≡◌, ℕ, min, List, length, IfOk, vec_len, string_bytes, subst, arith}
+use Rattle.std.proofs.Common.{◌≡◌, ℕ, min, length, IfOk, vec_len, string_bytes, subst, arith}
 use Rattle.std.proofs.lemmas.Result.{IfOk-from_err}
 use Rattle.model.specs.Models.{settled_file}
 use Rattle.process_text.specs.Shown.{ShowsSteps}

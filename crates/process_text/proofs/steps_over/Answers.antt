@@ -1,4 +1,4 @@
-use Rattle.std.proofs.Common.{◌≡◌, ℕ, ◌<◌, List, ◌++◌, vec_len, ap, ◌∙◌, arith}
+use Rattle.std.proofs.Common.{arith}
 use Rattle.process_text.proofs.Showing.{listed_at, slot_known, shows}
 use Rattle.process_text.proofs.steps_over.Goals as goal
 

@@ -1,5 +1,5 @@
 -- One row more: its height comes from the heights of its parts, which stand before it.
-use Rattle.std.proofs.Common.{◌≡◌, ℕ, ◌+◌, ◌<◌, ◌≤◌, max, ◌≢◌, List, length, get_or, sym, refl, ◌∙◌, arith, length-set, get_or-set_other, get_or-set_same, below_more}
+use Rattle.std.proofs.Common.{◌≡◌, ℕ, ◌+◌, ◌<◌, max, ◌≢◌, List, length, sym, refl, arith, length-set, get_or-set_other, get_or-set_same, below_more}
 use Rattle.model.specs.File.{process, rows}
 use Rattle.model.specs.Terms.{height}
 use Rattle.model.proofs.Formed.{all_fit}

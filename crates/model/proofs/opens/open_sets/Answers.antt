@@ -1,5 +1,5 @@
 -- One row more: what it has open comes from the sets of its parts, which stand before it.
-use Rattle.std.proofs.Common.{◌≡◌, ℕ, ◌<◌, ◌≤◌, ◌≢◌, List, length, get_or, set, sym, subst, arith, get_or-set_other, get_or-set_same, below_more}
+use Rattle.std.proofs.Common.{ℕ, ◌<◌, ◌≢◌, List, length, get_or, set, sym, subst, arith, get_or-set_other, get_or-set_same, below_more}
 use Rattle.model.specs.File.{process, rows}
 use Rattle.model.specs.Opening.{OpenedAs}
 use Rattle.model.proofs.Opened.{opened_row}

@@ -1,4 +1,3 @@
-use Rattle.std.proofs.Common.{◌≤◌}
 use Rattle.model.specs.Opening.{OpenedBelow}
 use Rattle.model.proofs.opens.open_sets.Given as goal
 

@@ -1,4 +1,4 @@
-use Rattle.std.proofs.Common.{◌≡◌, ℕ, List, [], ◌++◌, IfOk, string_bytes, codes, decimal, sym, ap, ◌∙◌, subst}
+use Rattle.std.proofs.Common.{◌≡◌, ℕ, List, [], ◌++◌, IfOk, string_bytes, codes, decimal, ap, ◌∙◌, subst}
 use Rattle.model.specs.File.{masks, mask_at_lem}
 use Rattle.model_text.specs.Text.{set_text_lem, mask_line}
 use Rattle.model_text.proofs.Readers.{read_or}

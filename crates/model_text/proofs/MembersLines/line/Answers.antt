@@ -1,5 +1,5 @@
 -- The lowest member: the bit is set, and nothing is set below it.
-use Rattle.std.proofs.Common.{◌≡◌, ℕ, ◌*◌, ◌%◌, ◌^◌, Bool, true, cond, eqb, List, [], ◌++◌, IfOk, string_bytes, codes, decimal, sym, refl, ap, ◌∙◌, subst}
+use Rattle.std.proofs.Common.{◌≡◌, ℕ, ◌%◌, ◌^◌, true, eqb, List, ◌++◌, IfOk, string_bytes, decimal, sym, ap, ◌∙◌, subst}
 use Rattle.std.proofs.lemmas.Nat.{one_shl}
 use Rattle.std.proofs.lemmas.Bool.{cond-true, eq-eqb}
 use Rattle.lent_bytes.specs.Bits.{bit}

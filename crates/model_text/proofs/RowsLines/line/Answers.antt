@@ -1,4 +1,4 @@
-use Rattle.std.proofs.Common.{◌≡◌, ℕ, List, ◌++◌, IfOk, string_bytes, codes, decimal, sym, ap, ◌∙◌, subst}
+use Rattle.std.proofs.Common.{◌≡◌, ℕ, List, ◌++◌, IfOk, string_bytes, codes, decimal, ap, ◌∙◌, subst}
 use Rattle.model.specs.File.{rows, row_at}
 use Rattle.model_text.specs.Text.{row_text_lem, row_line}
 use Rattle.model_text.proofs.Readers.{read}

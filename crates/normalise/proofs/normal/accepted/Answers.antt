@@ -1,4 +1,4 @@
-use Rattle.std.proofs.Common.{◌≡◌, ℕ, List, length, sym, refl, ap, ◌∙◌, inl, inr, arith}
+use Rattle.std.proofs.Common.{◌≡◌, ℕ, List, length, refl, ap, inl, inr, arith}
 use Rattle.table.specs.Form.{states}
 use Rattle.normalise.proofs.Answering.{answered}
 use Rattle.normalise.proofs.normal.accepted.Goals as goal

@@ -1,4 +1,4 @@
-use Rattle.std.proofs.Common.{◌≡◌, ℕ, length, None, Option, sym, subst, inl, arith}
+use Rattle.std.proofs.Common.{◌≡◌, ℕ, length, Option, sym, subst, inl, arith}
 use Rattle.table.specs.Form.{start}
 use Rattle.table.proofs.Entries.{lawful}
 use Rattle.systems.specs.Meaning.{Steps}

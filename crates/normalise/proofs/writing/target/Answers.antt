@@ -4,7 +4,7 @@ use Rattle.sets.specs.declared.state_set.StateSet.{StateSet}
 use Rattle.sets.specs.Members.{In, members}
 use Rattle.sets.specs.Preds.{Alike}
 use Rattle.normalise.specs.Closure.{Rel, next}
-use Rattle.normalise.specs.Nodes.{at, Place, Found}
+use Rattle.normalise.specs.Nodes.{at, Found}
 use Rattle.normalise.specs.Writing.{Led}
 use Rattle.normalise.proofs.Closes.{alike_chain}
 use Rattle.normalise.proofs.Explores.{alike_flip}

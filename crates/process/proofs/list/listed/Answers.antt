@@ -1,4 +1,3 @@
-use Rattle.std.proofs.Common.{◌≡◌, sym, ap, ◌∙◌}
 use Rattle.model.specs.File.{process}
 use Rattle.model.specs.Models.{settled_file}
 use Rattle.process.proofs.Listing.{model_row, listed_row, refused_row}

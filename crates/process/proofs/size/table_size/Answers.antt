@@ -1,4 +1,4 @@
-use Rattle.std.proofs.Common.{◌≡◌, ◌+◌, ◌*◌, ap, ◌∙◌}
+use Rattle.std.proofs.Common.{◌+◌, ◌*◌, ap}
 use Rattle.process.proofs.Sizing.{size_refused}
 use Rattle.process.proofs.size.table_size.Goals as goal
 

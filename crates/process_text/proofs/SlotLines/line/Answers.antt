@@ -1,4 +1,4 @@
-use Rattle.std.proofs.Common.{◌≡◌, ℕ, ◌+◌, ◌*◌, cond, ◌&&◌, ltb, List, ◌++◌, get_or, IfOk, Some, None, vec_items, vec_len, string_bytes, codes, decimal, Option, unwrap_or, sym, ap, ◌∙◌, subst}
+use Rattle.std.proofs.Common.{◌≡◌, ℕ, ◌+◌, ◌*◌, ◌&&◌, ltb, List, ◌++◌, get_or, IfOk, Some, None, vec_items, vec_len, string_bytes, codes, decimal, Option, unwrap_or, ap, ◌∙◌, subst}
 use Rattle.std.proofs.lemmas.Bool.{cond-true, and_from, lt-ltb}
 use Rattle.model.specs.declared.op.Row.{Row}
 use Rattle.model.specs.Rows.{blank}

@@ -1,6 +1,6 @@
-use Rattle.std.proofs.Common.{◌≡◌, ℕ, ◌+◌, ◌-◌, ◌*◌, ◌<◌, ◌≤◌, List, length, get_or, drop, sym, ◌∙◌, arith, below_more}
+use Rattle.std.proofs.Common.{ℕ, ◌+◌, ◌-◌, ◌*◌, ◌<◌, ◌≤◌, List, length, get_or, drop, sym, ◌∙◌, arith, below_more}
 use Rattle.std.proofs.lemmas.Bool.{eqb-false}
-use Rattle.script.specs.Lines.{Digit, value}
+use Rattle.script.specs.Lines.{Digit}
 use Rattle.script.proofs.Values.{value_grows, value_more, value_all}
 use Rattle.script.proofs.reading.number.Goals as goal
 

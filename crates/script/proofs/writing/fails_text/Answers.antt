@@ -1,4 +1,4 @@
-use Rattle.std.proofs.Common.{◌≡◌, ℕ, ◌<◌, ◌≤◌, List, ◌++◌, length, string_bytes, ap, ◌∙◌, arith}
+use Rattle.std.proofs.Common.{ℕ, ◌<◌, ◌≤◌, List, ◌++◌, length, string_bytes, ap, ◌∙◌, arith}
 use Rattle.std.specs.List.{flat_map}
 use Rattle.script.specs.Texts.{event_text}
 use Rattle.script.proofs.Joining.{grown, not_grown, grown_all}

@@ -1,4 +1,4 @@
-use Rattle.std.proofs.Common.{◌≡◌, ℕ, List, ◌++◌, IfOk, string_bytes, codes, decimal, subst}
+use Rattle.std.proofs.Common.{◌≡◌, ℕ, ◌++◌, IfOk, string_bytes, codes, decimal, subst}
 use Rattle.script.specs.Texts.{model_line_lem}
 use Rattle.script.proofs.writing.model_line.Goals as goal
 

@@ -1,4 +1,4 @@
-use Rattle.std.proofs.Common.{◌≡◌, ℕ, max, sym, subst, arith}
+use Rattle.std.proofs.Common.{◌≡◌, ℕ, max, subst, arith}
 use Rattle.fault.specs.declared.refusal.Refusal.TheVariants.{TablePair}
 use Rattle.fault.specs.Judged.{Passes, rule}
 use Rattle.table.specs.Form.{states}

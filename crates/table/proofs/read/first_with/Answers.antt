@@ -1,6 +1,6 @@
-use Rattle.std.proofs.Common.{◌≡◌, ◌<◌, ◌≤◌, length, sym, arith}
+use Rattle.std.proofs.Common.{◌<◌, length, sym, arith}
 use Rattle.table.specs.Form.{steps_of}
-use Rattle.table.proofs.Entries.{nth_within, lawful}
+use Rattle.table.proofs.Entries.{nth_within}
 use Rattle.table.proofs.Following.{follow_here, follow_on, follow_end}
 use Rattle.table.proofs.read.first_with.Goals as goal
 

@@ -1,4 +1,4 @@
-use Rattle.std.proofs.Common.{◌≡◌, ℕ, List, Some, None, Option, ap, ◌∙◌}
+use Rattle.std.proofs.Common.{ℕ, List, Option, ap, ◌∙◌}
 use Rattle.model.specs.declared.op.Op.{Op}
 use Rattle.model.specs.File.{row_at, row_from, row_with_lem, left_at_lem, right_at_lem}
 use Rattle.model.proofs.file.File.row_at.Goals as goal

@@ -1,5 +1,5 @@
 -- All bits below d say that all open definitions are below d.
-use Rattle.std.proofs.Common.{◌≡◌, ℕ, ◌^◌, ◌<◌, List, get_or, sym, ap, ◌∙◌, subst, arith}
+use Rattle.std.proofs.Common.{◌≡◌, ℕ, List, get_or, sym, ap, ◌∙◌, subst, arith}
 use Rattle.std.proofs.lemmas.Bool.{eqb-true, eq-eqb}
 use Rattle.lent_bytes.proofs.Bitwise.{below_from_shift, shift_from_below, below_from_bits, bits_from_below}
 use Rattle.model.specs.File.{body, definition_at_lem}

@@ -1,4 +1,4 @@
-use Rattle.std.proofs.Common.{◌≡◌, ℕ, ◌+◌, ◌<◌, ◌≤◌, List, Some, sym, ap, ◌∙◌, arith}
+use Rattle.std.proofs.Common.{◌≡◌, ℕ, ◌+◌, ◌<◌, ◌≤◌, Some, sym, ap, ◌∙◌, arith}
 use Rattle.table.specs.Form.{states, offset, size, step}
 use Rattle.table.proofs.Entries.{steps_none, steps_past, steps_at, lawful}
 use Rattle.table.proofs.view.Table.step.Goals as goal

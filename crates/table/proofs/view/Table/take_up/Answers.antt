@@ -1,4 +1,4 @@
-use Rattle.std.proofs.Common.{ℕ, lit<}
+use Rattle.std.proofs.Common.{lit<}
 use Rattle.table.specs.Rules.{table_rules}
 use Rattle.table.proofs.Bare.{bare_sized, bare_pairs, bare_formed, bare_ended}
 use Rattle.table.proofs.Taking.{taken_whole, taken_bare}
