@@ -21,7 +21,7 @@ use Rattle.model.proofs.Formed.{process_at, fit_at}
 
 -- an operator that has nothing open
 nothing : (t : Term) → ((e : ℕ) → Open t e → ⊥) → OpenBits 0 t
-nothing t no-open e = (λ h. absurd (both_ways (bit 0 e) (bit_zero e) h), λ h. absurd (no-open e h))
+nothing t no_open e = (λ h. absurd (both_ways (bit 0 e) (bit_zero e) h), λ h. absurd (no_open e h))
 
 either : (a b : ℕ) (p q t : Term) → ((e : ℕ) → Open p e ⊎ Open q e → Open t e) → ((e : ℕ) → Open t e → Open p e ⊎ Open q e) → OpenBits a p → OpenBits b q → OpenBits (bit_or a b) t
 either a b p q t to from ha hb e =

@@ -1,6 +1,6 @@
 // Reading a model file. Every read is total: an index past a section answers nothing.
 ghost use Rattle.std.specs.Prelude.{◌≡◌, ℕ, ◌+◌, ◌*◌, ◌^◌, ◌<◌, ◌≤◌, if◌then◌else◌, Some, None, nat_lt};
-ghost use Rattle.model.specs.File.{events as eventsOf, offset, masks as masksIn, rows as rows_in, definitions as definitionsIn, mask_at_lem, definition_at_lem, row_place_lem, row_bytes_lem, op_at_lem, left_at_lem, right_at_lem, spare_at_lem, argument_at_lem, part_field_lem, row_with_lem, row_at};
+ghost use Rattle.model.specs.File.{events as events_of, offset, masks as masks_in, rows as rows_in, definitions as definitions_in, mask_at_lem, definition_at_lem, row_place_lem, row_bytes_lem, op_at_lem, left_at_lem, right_at_lem, spare_at_lem, argument_at_lem, part_field_lem, row_with_lem, row_at};
 
 use crate::op::{Op, Row, Use};
 use lent_bytes::{byte_at, u16_at, u32_at, u64_at};
@@ -36,13 +36,13 @@ fn row_with(op: Op, left: u16, right: u16) -> Row
 impl File<'_> {
     // The number of visible events: they are 2 to events + 1.
     pub fn events(&self) -> u8
-        ensures { result ≡ eventsOf self.now.bytes.now }
+        ensures { result ≡ events_of self.now.bytes.now }
     {
         byte_at(self.bytes, 2)
     }
 
     pub fn masks(&self) -> usize
-        ensures value { result ≡ masksIn self.now.bytes.now }
+        ensures value { result ≡ masks_in self.now.bytes.now }
         ensures bound { result < 2 ^ 29 }
     {
         u32_at(self.bytes, 8) as usize / 8
@@ -56,7 +56,7 @@ impl File<'_> {
     }
 
     pub fn definitions(&self) -> usize
-        ensures value { result ≡ definitionsIn self.now.bytes.now }
+        ensures value { result ≡ definitions_in self.now.bytes.now }
         ensures bound { result < 2 ^ 31 }
     {
         u32_at(self.bytes, 24) as usize / 2
@@ -64,7 +64,7 @@ impl File<'_> {
 
     // The bits of mask k: the bit of value 2^i stands for event i.
     pub fn mask(&self, k: usize) -> Option<u64>
-        ensures { result ≡ (if nat_lt k (masksIn self.now.bytes.now) then Some (mask_at_lem self.now.bytes.now k) else None) }
+        ensures { result ≡ (if nat_lt k (masks_in self.now.bytes.now) then Some (mask_at_lem self.now.bytes.now k) else None) }
     {
         if k < self.masks() {
             Some(self.mask_at(k))
@@ -86,7 +86,7 @@ impl File<'_> {
 
     // The row of definition d's body.
     pub fn definition(&self, d: usize) -> Option<u16>
-        ensures { result ≡ (if nat_lt d (definitionsIn self.now.bytes.now) then Some (definition_at_lem self.now.bytes.now d) else None) }
+        ensures { result ≡ (if nat_lt d (definitions_in self.now.bytes.now) then Some (definition_at_lem self.now.bytes.now d) else None) }
     {
         if d < self.definitions() {
             Some(self.definition_at(d))

@@ -133,18 +133,18 @@ module _ (R : Rel) (s0 : ℕ) (rows : List StateSet) (len : ℕ) (b : List ℕ) 
   few_steps p d =
       ⊎_elim
       (λ (l : m < p).
-      let at-spot : (i : ℕ) → (j : ℕ) × (i < p → Spot (In (d.node i)) (d.event i) j) =
+      let at_spot : (i : ℕ) → (j : ℕ) × (i < p → Spot (In (d.node i)) (d.event i) j) =
       λ i.
       ⊎_elim
       (λ (h : i < p). let s = spot p d i h in (s.0, λ _. s.1))
       (λ (h : p ≤ i). (0, λ u. absurd (omega (arith, h, u))))
       (cases_lt i p) in
-      let r = pigeon m (λ i. (at-spot i).0) (λ i h. spot_within _ _ _ ((at-spot i).1 (omega (arith, h)))) in
+      let r = pigeon m (λ i. (at_spot i).0) (λ i h. spot_within _ _ _ ((at_spot i).1 (omega (arith, h)))) in
       let li : r.0 < p = omega (arith, r.2, r.3) in
       let lk : r.1 < p = omega (arith, r.3) in
-      let s = (at-spot r.0).1 li in
-      let t : Spot (In (d.node r.1)) (d.event r.1) (at-spot r.0).0 =
-      subst (λ (j : ℕ). Spot (In (d.node r.1)) (d.event r.1) j) (sym r.4) ((at-spot r.1).1 lk) in
+      let s = (at_spot r.0).1 li in
+      let t : Spot (In (d.node r.1)) (d.event r.1) (at_spot r.0).0 =
+      subst (λ (j : ℕ). Spot (In (d.node r.1)) (d.event r.1) j) (sym r.4) ((at_spot r.1).1 lk) in
       let n = same_node _ _ _ _ _ s t in
       let a : Alike (at rows s.node) (In (d.node r.1)) =
       subst (λ (x : ℕ). Alike (at rows x) (In (d.node r.1))) (sym n) t.alike in

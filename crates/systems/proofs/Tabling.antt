@@ -5,7 +5,7 @@ use Rattle.std.specs.Option.{option_map}
 use Rattle.std.proofs.lemmas.List.{length-map}
 use Rattle.table.specs.declared.step.Step.{Step}
 use Rattle.table.specs.Form.{steps_of}
-use Rattle.table.specs.Steps.{Lawful as TableLawful, Lone as TableLone, follow as table-follow}
+use Rattle.table.specs.Steps.{Lawful as TableLawful, Lone as TableLone, follow as table_follow}
 use Rattle.systems.specs.Meaning.{Lawful, Lone, follow}
 use Rattle.systems.specs.Tables.{taken, table_lts}
 use Rattle.systems.proofs.Entries.{map_entry}
@@ -20,7 +20,7 @@ pub taken_entry : (xs : List Step) (k : ℕ) (o : Option Step) (r : Option (ℕ 
 taken_entry xs k o r e h = h ∙ (ap (option_map taken) e ∙ nth_mapped taken xs k)
 
 -- where an event leads
-pub taken_follow : (xs : List Step) (e : ℕ) → table-follow xs e ≡ follow (map taken xs) e
+pub taken_follow : (xs : List Step) (e : ℕ) → table_follow xs e ≡ follow (map taken xs) e
 taken_follow [] e = refl
 taken_follow (x ∷ xs) e = ap (λ o. cond (eqb x.event e) (Some x.target) o) (taken_follow xs e)
 

@@ -30,13 +30,13 @@ module _ (at : ℕ → ℕ) (n met : ℕ) (m : MeetsAll at n met) where
   -- the next event is new
   pub fresh_more : (e : ℕ) → e ≡ at n → (bit met e ≡ 1 → ⊥) → Fresh at n → Fresh at (n + 1)
   fresh_more e is new f =
-      let tau-not : at n ≡ 0 → ⊥ = λ z. new (ap (bit met) (is ∙ z) ∙ m.tau) in
+      let tau_not : at n ≡ 0 → ⊥ = λ z. new (ap (bit met) (is ∙ z) ∙ m.tau) in
       let not-before : (j : ℕ) → j < n → at j ≡ at n → ⊥ = λ j l q. new (ap (bit met) (is ∙ sym q) ∙ m.each j l) in
       record {
         loud = λ k h z.
             ⊎_elim
             (λ l. f.loud k l z)
-            (λ l. let q : k ≡ n = omega arith in tau-not (ap at (sym q) ∙ z))
+            (λ l. let q : k ≡ n = omega arith in tau_not (ap at (sym q) ∙ z))
             (cases_lt k n);
         apart = λ j k l h z.
             ⊎_elim

@@ -13,9 +13,9 @@ loop-i-preserved c =
     let v : ℕ = c.open_set-set.result in
     let lt : i < rows b = omega (arith, c.loop-i-test.true, c.rows-i-end.ensures.value) in
     let w : i < length ss = omega (arith, lt, c.requires.room, c.loop-i.auto.sets) in
-    let now-open : OpenedAs v (process b i) = subst (λ (z : ℕ). OpenedAs z (process b i)) (sym c.open_set-set.ensures) (opened_row b ss c.requires.fit c.requires.named c.requires.few i lt c.loop-i.invariant c.row_at-row.result c.row_at-row.ensures) in
+    let now_open : OpenedAs v (process b i) = subst (λ (z : ℕ). OpenedAs z (process b i)) (sym c.open_set-set.ensures) (opened_row b ss c.requires.fit c.requires.named c.requires.few i lt c.loop-i.invariant c.row_at-row.result c.row_at-row.ensures) in
     below_more
     (λ k. OpenedAs (get_or (set ss i v) k 0) (process b k))
     i
     (λ k h. let ne : k ≢ i = omega arith in subst (λ (z : ℕ). OpenedAs z (process b k)) (sym (get_or-set_other ss i k v 0 ne)) (c.loop-i.invariant k h))
-    (subst (λ (z : ℕ). OpenedAs z (process b i)) (sym (get_or-set_same ss i v 0 w)) now-open)
+    (subst (λ (z : ℕ). OpenedAs z (process b i)) (sym (get_or-set_same ss i v 0 w)) now_open)
