@@ -5,7 +5,8 @@ usage: python3 tools/respell.py [--dry]     at the top of the repository, once, 
 
 What has a capital first becomes upper camel case, everything else snake case, in crates/*/specs, crates/*/proofs and in the clauses,
 ghost members and ghost imports of crates/*/src. Names that Rattle makes (goals, steps, invariants) and names of the code stay. Names of two
-spellings that would fall together, or onto a word that stands in the files already, get the ending `_lem` (a fact or a type: `Fact`).
+spellings that would fall together, or onto a word that stands already in a file or a crate that has the name, get the ending `_lem` (a fact or
+a type: `Fact`).
 """
 
 import collections
@@ -21,20 +22,16 @@ WORDS = {"let", "use", "pub", "mod", "elim", "where", "unfolding", "open", "in",
 TOKEN = re.compile(r"(?<![^\s(){}\[\]:;,.λ=|\"`←-])" + WORD)
 
 
-def antt(root):
-    for folder, dirs, files in os.walk(os.path.join(root, "crates")):
+def files(root, ending):
+    for folder, dirs, names in os.walk(os.path.join(root, "crates")):
         dirs[:] = sorted(d for d in dirs if d != "out")
-        for f in sorted(files):
-            if f.endswith(".antt"):
+        for f in sorted(names):
+            if f.endswith(ending):
                 yield os.path.join(folder, f)
 
 
-def sources(root):
-    for folder, dirs, files in os.walk(os.path.join(root, "crates")):
-        dirs[:] = sorted(d for d in dirs if d != "out")
-        for f in sorted(files):
-            if f.endswith(".rt"):
-                yield os.path.join(folder, f)
+def crate(p):
+    return p.split("/crates/")[1].split("/")[0]
 
 
 def read(p):
@@ -58,7 +55,7 @@ def spelled(name):
 def declared(root):
     """Every name that a file of specs/ or proofs/ declares, but for answers to goals of Rattle's."""
     names = collections.defaultdict(set)
-    for p in antt(root):
+    for p in files(root, ".antt"):
         for line in read(p).split("\n"):
             if line.lstrip().startswith("--") or KEEP.search(line):
                 continue
@@ -85,6 +82,12 @@ def ghost_parts(text):
     return out
 
 
+def rewrite(p, text, new):
+    if new != text:
+        with open(p, "w", encoding="utf-8") as f:
+            f.write(new)
+
+
 def renamed(text, names):
     def one(m):
         word = m.group(0)
@@ -101,8 +104,7 @@ def renamed(text, names):
 def main():
     root, dry = ".", "--dry" in sys.argv
     names = declared(root)
-    said = {p: {m.group(0) for m in re.finditer(WORD, read(p))} for p in list(antt(root)) + list(sources(root))}
-    crate = lambda p: p.split("/crates/")[1].split("/")[0]
+    said = {p: {m.group(0) for m in re.finditer(WORD, read(p))} for p in files(root, (".antt", ".rt"))}
     new = {}
     for n in sorted(names):
         if not re.match(r"^[A-Za-z]", n):
@@ -128,20 +130,14 @@ def main():
         for n in sorted(new):
             print(f"{n} -> {new[n]}")
         return
-    for p in antt(root):
-        t = read(p)
-        u = renamed(t, new)
-        if u != t:
-            with open(p, "w", encoding="utf-8") as f:
-                f.write(u)
-    for p in sources(root):
-        t = read(p)
-        u = t
-        for a, b in sorted(ghost_parts(t), reverse=True):
-            u = u[:a] + renamed(u[a:b], new) + u[b:]
-        if u != t:
-            with open(p, "w", encoding="utf-8") as f:
-                f.write(u)
+    for p in files(root, ".antt"):
+        text = read(p)
+        rewrite(p, text, renamed(text, new))
+    for p in files(root, ".rt"):
+        text = made = read(p)
+        for a, b in sorted(ghost_parts(text), reverse=True):
+            made = made[:a] + renamed(made[a:b], new) + made[b:]
+        rewrite(p, text, made)
 
 
 main()
