@@ -1,6 +1,6 @@
 -- Conditions tried in order: what a check answers is the first refusal whose condition fails, at the
 -- first place at which it fails. Assumes nothing.
-use Rattle.std.specs.Prelude.{◌≡◌, ℕ, ◌⊎◌, List, [], ◌∷◌, Ok, Err, Result}
+use Rattle.std.specs.Prelude.{◌≡◌, ℕ, ◌<◌, ◌⊎◌, Bool, true, false, List, [], ◌∷◌, Ok, Err, Result}
 use Rattle.fault.specs.declared.refusal.Refusal.{Refusal}
 use Rattle.fault.specs.declared.refusal.Fault.{Fault}
 use Rattle.fault.specs.First.{Below, FirstFail}
@@ -33,6 +33,11 @@ pub record Refused (c : Rule) (f : Fault) : Type 0 where
 abbrev pub Passes : Rule → Answer → Type 0
 Passes c (Ok u) = Everywhere c
 Passes c (Err f) = Refused c f
+
+-- what asking a question at the places below n, up to the first no, answers: `said k b` where the question may answer b at place k
+abbrev pub Tried : (ℕ → Bool → Type 0) → Refusal → ℕ → Answer → Type 0
+Tried said r n (Ok u) = Below (λ k. said k true) n
+Tried said r n (Err f) = (f.refusal ≡ r) × (f.place < n) × said f.place false × Below (λ k. said k true) f.place
 
 -- every rule holds everywhere
 abbrev pub Meets : List Rule → Type 0

@@ -1,5 +1,5 @@
 -- What a fault says to a person. Assumes nothing.
-use Rattle.std.specs.Prelude.{ℕ, cond, List, ◌++◌, length, codes, decimal, ◌==◌}
+use Rattle.std.specs.Prelude.{ℕ, List, [], ◌++◌, Some, None, Option, codes, decimal}
 use Rattle.fault.specs.declared.refusal.Fault.{Fault}
 use Rattle.fault.specs.declared.refusal.Refusal.{Refusal}
 use Rattle.fault.specs.declared.refusal.Refusal.TheVariants.{FileLength, FileHead, FilePair, FileMask, FileRow, FileRepeat, FileHeight, FileDefinition, ModelOpen, ProcessRow, ProcessRoom, TableLength, TablePair, TableStep, TableNormal, NormaliseStates, NormaliseRoom, SystemEvents, SearchRows, SearchBudget, SearchLent, SearchFull, TraceBuffer, AuditStart, AuditEvent, AuditPair, ScriptLine}
@@ -33,35 +33,40 @@ words AuditEvent = codes "the specification does not allow an event of the desig
 words AuditPair = codes "a pair that is reached is not listed"
 words ScriptLine = codes "the line is not two row numbers with one space between them"
 
--- what a place counts; empty where the refusal has no place
-abbrev pub noun : Refusal → List ℕ
-noun FileLength = codes ""
-noun FileHead = codes ""
-noun FilePair = codes "section"
-noun FileMask = codes "mask"
-noun FileRow = codes "row"
-noun FileRepeat = codes "row"
-noun FileHeight = codes "row"
-noun FileDefinition = codes "definition"
-noun ModelOpen = codes "definition"
-noun ProcessRow = codes "row"
-noun ProcessRoom = codes ""
-noun TableLength = codes ""
-noun TablePair = codes "state"
-noun TableStep = codes "step"
-noun TableNormal = codes "state"
-noun NormaliseStates = codes ""
-noun NormaliseRoom = codes ""
-noun SystemEvents = codes ""
-noun SearchRows = codes ""
-noun SearchBudget = codes ""
-noun SearchLent = codes ""
-noun SearchFull = codes ""
-noun TraceBuffer = codes ""
-noun AuditStart = codes ""
-noun AuditEvent = codes "row"
-noun AuditPair = codes "row"
-noun ScriptLine = codes "line"
+-- what a place counts; nothing where the refusal has no place
+abbrev pub noun : Refusal → Option (List ℕ)
+noun FileLength = None
+noun FileHead = None
+noun FilePair = Some (codes "section")
+noun FileMask = Some (codes "mask")
+noun FileRow = Some (codes "row")
+noun FileRepeat = Some (codes "row")
+noun FileHeight = Some (codes "row")
+noun FileDefinition = Some (codes "definition")
+noun ModelOpen = Some (codes "definition")
+noun ProcessRow = Some (codes "row")
+noun ProcessRoom = None
+noun TableLength = None
+noun TablePair = Some (codes "state")
+noun TableStep = Some (codes "step")
+noun TableNormal = Some (codes "state")
+noun NormaliseStates = None
+noun NormaliseRoom = None
+noun SystemEvents = None
+noun SearchRows = None
+noun SearchBudget = None
+noun SearchLent = None
+noun SearchFull = None
+noun TraceBuffer = None
+noun AuditStart = None
+noun AuditEvent = Some (codes "row")
+noun AuditPair = Some (codes "row")
+noun ScriptLine = Some (codes "line")
+
+-- a place in brackets after its noun; nothing where there is no noun
+abbrev pub bracketed : Option (List ℕ) → ℕ → List ℕ
+bracketed None place = []
+bracketed (Some n) place = codes " (" ++ (n ++ (codes " " ++ (decimal place ++ codes ")")))
 
 abbrev pub told : Fault → List ℕ
-told f = cond (length (noun f.refusal) == 0) (words f.refusal) (words f.refusal ++ (codes " (" ++ (noun f.refusal ++ (codes " " ++ (decimal f.place ++ codes ")")))))
+told f = words f.refusal ++ bracketed (noun f.refusal) f.place

@@ -5,5 +5,5 @@ pub mod condition;
 pub mod refusal;
 pub mod words;
 
-pub use condition::{Condition, first};
+pub use condition::first;
 pub use refusal::{Fault, Refusal};

@@ -1,9 +1,10 @@
 // Each way in which a call of the engine refuses, by name. A refusal's layer and number, which
 // programs read, are given once, by `listed` of specs/Listing.antt.
 ghost use Rattle.std.specs.Prelude.{◌≡◌};
+ghost use Rattle.fault.specs.Judged.{fault};
 ghost use Rattle.fault.specs.Listing.{layer, number};
 
-#[derive(Clone, Copy)]
+#[derive(Clone, Copy, PartialEq, Eq, Debug)]
 pub enum Refusal {
     // model file
     FileLength,
@@ -43,10 +44,19 @@ pub enum Refusal {
 
 // What a call that refuses tells: which refusal, and the place (the number of the pair, mask, row,
 // definition, step, state or line; 0 where the refusal has no place).
-#[derive(Clone, Copy)]
+#[derive(Clone, Copy, PartialEq, Eq, Debug)]
 pub struct Fault {
     pub refusal: Refusal,
     pub place: usize,
+}
+
+// A refusal that has no place.
+impl From<Refusal> for Fault {
+    ghost from_gives = { λ refusal f. f ≡ fault refusal 0 };
+
+    fn from(refusal: Refusal) -> Fault {
+        Fault { refusal, place: 0 }
+    }
 }
 
 impl Refusal {

@@ -1,5 +1,5 @@
 // What a fault says to a person: what is wrong, and where.
-ghost use Rattle.std.specs.Prelude.{◌≡◌, Some};
+ghost use Rattle.std.specs.Prelude.{◌≡◌, Some, None, MatchOption};
 ghost use Rattle.fault.specs.Words.{words, noun, told};
 
 use crate::refusal::{Fault, Refusal};
@@ -45,9 +45,9 @@ impl Refusal {
         }
     }
 
-    // What a place of this refusal counts; empty where it has none.
-    pub fn noun(self) -> &'static str
-        ensures { result.now ≡ noun self }
+    // What a place of this refusal counts; nothing where it has no place.
+    pub fn noun(self) -> Option<&'static str>
+        ensures { MatchOption result (noun self ≡ None) (λ s. noun self ≡ Some s.now) }
     {
         match self {
             Refusal::FileLength
@@ -62,20 +62,28 @@ impl Refusal {
             | Refusal::SearchLent
             | Refusal::SearchFull
             | Refusal::TraceBuffer
-            | Refusal::AuditStart => "",
-            Refusal::FilePair => "section",
-            Refusal::FileMask => "mask",
+            | Refusal::AuditStart => None,
+            Refusal::FilePair => Some("section"),
+            Refusal::FileMask => Some("mask"),
             Refusal::FileRow
             | Refusal::FileRepeat
             | Refusal::FileHeight
             | Refusal::ProcessRow
             | Refusal::AuditEvent
-            | Refusal::AuditPair => "row",
-            Refusal::FileDefinition | Refusal::ModelOpen => "definition",
-            Refusal::TablePair | Refusal::TableNormal => "state",
-            Refusal::TableStep => "step",
-            Refusal::ScriptLine => "line",
+            | Refusal::AuditPair => Some("row"),
+            Refusal::FileDefinition | Refusal::ModelOpen => Some("definition"),
+            Refusal::TablePair | Refusal::TableNormal => Some("state"),
+            Refusal::TableStep => Some("step"),
+            Refusal::ScriptLine => Some("line"),
         }
+    }
+}
+
+impl fmt::Display for Refusal {
+    ghost output = { λ r. Some (words r) };
+
+    fn fmt<W: fmt::Write>(&self, f: &mut fmt::Formatter<W>) -> fmt::Result {
+        f.write_str(self.words())
     }
 }
 
@@ -84,12 +92,10 @@ impl fmt::Display for Fault {
 
     fn fmt<W: fmt::Write>(&self, f: &mut fmt::Formatter<W>) -> fmt::Result {
         let words = self.refusal.words();
-        let noun = self.refusal.noun();
         let place = self.place;
-        if noun.is_empty() {
-            write!(f, "{words}")
-        } else {
-            write!(f, "{words} ({noun} {place})")
+        match self.refusal.noun() {
+            None => write!(f, "{words}"),
+            Some(noun) => write!(f, "{words} ({noun} {place})"),
         }
     }
 }
