@@ -6,4 +6,4 @@ pub mod kinds;
 pub mod list;
 
 pub use guard::{Blank, Clearing, Unfinished, clear};
-pub use list::{Noted, Same, find, note};
+pub use list::{FirstSeen, Full, Noted, Same, find};

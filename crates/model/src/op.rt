@@ -3,8 +3,9 @@ ghost use Rattle.std.specs.Prelude.{◌≡◌};
 ghost use Rattle.model.specs.Ops.{shape, op_of};
 
 // An operator with its argument. Omega is the process that has ended; it stands in no file.
-#[derive(Clone, Copy)]
+#[derive(Clone, Copy, PartialEq, Eq, Debug, Default)]
 pub enum Op {
+    #[default]
     Stop,
     Skip,
     Omega,
@@ -23,7 +24,7 @@ pub enum Op {
 }
 
 // What a field of a row holds.
-#[derive(Clone, Copy)]
+#[derive(Clone, Copy, PartialEq, Eq, Debug)]
 pub enum Use {
     Unused,
     Event,
@@ -33,7 +34,7 @@ pub enum Use {
 }
 
 // The uses of a row's three fields.
-#[derive(Clone, Copy)]
+#[derive(Clone, Copy, PartialEq, Eq, Debug)]
 pub struct Shape {
     pub argument: Use,
     pub left: Use,
@@ -41,7 +42,7 @@ pub struct Shape {
 }
 
 // A process: an operator over rows that stand before it. A field that is no part is 0.
-#[derive(Clone, Copy)]
+#[derive(Clone, Copy, PartialEq, Eq, Debug, Default)]
 pub struct Row {
     pub op: Op,
     pub left: u16,
