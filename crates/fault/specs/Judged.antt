@@ -34,10 +34,20 @@ abbrev pub Passes : Rule → Answer → Type 0
 Passes c (Ok u) = Everywhere c
 Passes c (Err f) = Refused c f
 
+-- no comes first at the fault's place, of the places below n
+pub record FirstNo (said : ℕ → Bool → Type 0) (r : Refusal) (n : ℕ) (f : Fault) : Type 0 where
+  pub told : f.refusal ≡ r
+  pub within : f.place < n
+  pub no : said f.place false
+  pub before : Below (λ k. said k true) f.place
+
+abbrev pub said_so : (ℕ → Bool → Type 0) → Refusal → ℕ → Answer → Type 0
+said_so said r n (Ok u) = Below (λ k. said k true) n
+said_so said r n (Err f) = FirstNo said r n f
+
 -- what asking a question at the places below n, up to the first no, answers: `said k b` where the question may answer b at place k
-abbrev pub Tried : (ℕ → Bool → Type 0) → Refusal → ℕ → Answer → Type 0
-Tried said r n (Ok u) = Below (λ k. said k true) n
-Tried said r n (Err f) = (f.refusal ≡ r) × (f.place < n) × said f.place false × Below (λ k. said k true) f.place
+pub record Tried (said : ℕ → Bool → Type 0) (r : Refusal) (n : ℕ) (a : Answer) : Type 0 where
+  pub so : said_so said r n a
 
 -- every rule holds everywhere
 abbrev pub Meets : List Rule → Type 0

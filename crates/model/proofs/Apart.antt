@@ -1,6 +1,10 @@
 -- The eight bytes of a well-formed row are told by the row that they stand for, so rows with different bytes
 -- are different rows.
-use Rattle.std.proofs.Common.{◌≡◌, ℕ, zero, suc, ◌+◌, ◌*◌, List, sym, ap, ◌∙◌, add_assoc, arith}
+use Rattle.std.proofs.Common.{◌≡◌, ℕ, zero, suc, ◌+◌, ◌*◌, ◌<◌, ◌≢◌, Bool, true, false, Decides, List, length, get_or, sym, refl, ap, ◌∙◌, subst, add_assoc, zero-add, arith}
+use Rattle.std.specs.Bool.{MatchBool}
+use Rattle.std.specs.List.{range_with_len, AllWithin, HoldsAt}
+use Rattle.std.proofs.lemmas.List.FromFn.{length-range_with_len, get_or-range_with_len}
+use Rattle.fault.specs.First.{Below}
 use Rattle.lent_bytes.specs.Reads.{be}
 use Rattle.lent_bytes.proofs.Parts.{be_two, be_four, be_eight}
 use Rattle.model.specs.declared.op.Op.{Op}
@@ -61,3 +65,13 @@ module _ (b : List ℕ) (i : ℕ) where
 -- two well-formed rows that are equal have equal bytes
 pub bytes_same : (b : List ℕ) (i j : ℕ) → RowOk b i → RowOk b j → row_at b i ≡ row_at b j → row_bytes_lem b i ≡ row_bytes_lem b j
 bytes_same b i j hi hj e = bytes_told b i hi ∙ ap code e ∙ sym (bytes_told b j hj)
+
+-- a look at each number below n decides whether w is none of theirs
+pub decides_below : (W : ℕ → ℕ) (w n : ℕ) (r : Bool) → MatchBool r (AllWithin (λ k. W k ≢ w) (range_with_len 0 n) 0 (length (range_with_len 0 n))) ((k : ℕ) × (k < length (range_with_len 0 n)) × HoldsAt (λ k. W k ≡ w) (range_with_len 0 n) k) → Decides r (Below (λ j. W j ≢ w) n)
+decides_below W w n true m = (λ _ k h. let e : get_or (range_with_len 0 n) k 0 ≡ k = get_or-range_with_len 0 n k 0 h ∙ zero-add k in subst (λ (j : ℕ). W j ≢ w) e (m k 0 (omega arith) (rw (length-range_with_len 0 n) h)), λ _. refl)
+decides_below W w n false m =
+    let h : m.0 < n = rw (length-range_with_len 0 n) at m.1 in
+    let e : get_or (range_with_len 0 n) m.0 0 ≡ m.0 = get_or-range_with_len 0 n m.0 0 h ∙ zero-add m.0 in (
+      λ t. let z : ◌≡◌ {A = ℕ} 0 1 = cc in absurd (omega arith),
+      λ all. absurd (all m.0 h (subst (λ (j : ℕ). W j ≡ w) e (m.2 0))),
+    )

@@ -1,5 +1,5 @@
 -- The height of a row's process, from the heights of the rows before it.
-use Rattle.std.proofs.Common.{◌≡◌, ℕ, ◌+◌, ◌<◌, max, List, get_or, sym, refl, ap, ◌∙◌}
+use Rattle.std.proofs.Common.{◌≡◌, ℕ, ◌+◌, ◌<◌, max, ◌≢◌, List, get_or, sym, refl, ap, ◌∙◌, arith}
 use Rattle.model.specs.declared.op.Use.{Use}
 use Rattle.model.specs.declared.op.Use.TheVariants.{Unused, Event, Mask, Part, Definition}
 use Rattle.model.specs.declared.op.Row.{Row}
@@ -10,6 +10,14 @@ use Rattle.model.specs.Rows.{part_of, left_of, right_of, terms, PartIn, AllFit}
 use Rattle.model.specs.File.{rows, row_at, rows_of, process}
 use Rattle.model.specs.Tall.{height_field}
 use Rattle.model.proofs.Formed.{process_at, fit_at}
+
+-- a field's height, as it is read: that of the part where the field holds one
+pub tall_part : (u : Use) (hs : List ℕ) (p x : ℕ) {y : ℕ} → (u ≡ Part → x ≡ y) → (u ≢ Part → x ≡ 0) → y ≡ get_or hs p 0 → x ≡ height_field u hs p
+tall_part Unused hs p x there none e = none (λ h. let z : ◌≡◌ {A = ℕ} 0 1 = cc in omega arith)
+tall_part Event hs p x there none e = none (λ h. let z : ◌≡◌ {A = ℕ} 0 1 = cc in omega arith)
+tall_part Mask hs p x there none e = none (λ h. let z : ◌≡◌ {A = ℕ} 0 1 = cc in omega arith)
+tall_part Part hs p x there none e = there refl ∙ e
+tall_part Definition hs p x there none e = none (λ h. let z : ◌≡◌ {A = ℕ} 0 1 = cc in omega arith)
 
 -- the heights of the rows below i are known
 abbrev pub KnownBelow : List ℕ → List ℕ → ℕ → Type 0

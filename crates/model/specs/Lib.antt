@@ -9,3 +9,4 @@ pub mod Sound
 pub mod Opening
 pub mod Models
 pub mod Sameness
+pub mod Sections

@@ -1,74 +1,16 @@
 // Whether a model file is well formed: the conditions of refusals 1 to 8, tried in order.
-ghost use Rattle.std.specs.Prelude.{◌≡◌, ℕ, ◌+◌, ◌*◌, ◌^◌, ◌<◌, ◌≤◌, length, Decides, ◌≢◌};
-ghost use Rattle.fault.specs.First.{Below};
-ghost use Rattle.fault.specs.Judged.{Everywhere, Exact, Judged, Passes};
-ghost use Rattle.model.specs.File.{events, masks, rows, definitions, unit, least, most, row_bytes_lem};
-ghost use Rattle.model.specs.Rules.{floor, FieldOk, FieldsOk, RowOk, RowNew, PairOk, MaskOk, DefinitionOk, length_rule, head_rule, pair_rule, mask_rule, row_rule, repeat_rule, height_rule, definition_rule, file_rules, rules_in_order};
+ghost use Rattle.std.specs.Prelude.{◌+◌, ◌^◌, ◌<◌, ◌≤◌, ◌≡◌, Decides};
+ghost use Rattle.fault.specs.Judged.{Exact, Judged, Passes};
+ghost use Rattle.model.specs.File.{events};
+ghost use Rattle.model.specs.Rules.{floor, FieldOk, FieldsOk, RowOk, RowNew, PairOk, MaskOk, DefinitionOk, LengthOk, HeadOk, length_rule, head_rule, pair_rule, mask_rule, row_rule, repeat_rule, definition_rule, file_rules, rules_in_order};
+ghost use Rattle.model.specs.Sections.{place};
 
 use crate::file::File;
 use crate::heights::check_heights;
 use crate::op::{Op, Use};
-use fault::{Condition, Fault, Refusal, first};
-use lent_bytes::{u16_at, u32_at};
-
-#[derive(Clone, Copy)]
-struct Pairs<'a> {
-    file: File<'a>,
-}
-
-fn unit_of(k: usize) -> u32
-    ensures value { result ≡ unit k }
-    ensures some { 0 < result }
-{
-    if k < 2 { 8 } else { 2 }
-}
-
-fn least_of(k: usize) -> u32
-    ensures { result ≡ least k }
-{
-    if k == 1 { 1 } else { 0 }
-}
-
-fn most_of(k: usize) -> u32
-    ensures { result ≡ most k }
-{
-    if k == 1 { 4096 } else { 64 }
-}
-
-// Where section k may begin.
-fn floor_of(bytes: &[u8], k: usize) -> u64
-    requires { k < 3 }
-    ensures { result ≡ floor bytes.now k }
-{
-    if k == 0 {
-        28
-    } else {
-        u32_at(bytes, 8 * k - 4) as u64 + u32_at(bytes, 8 * k) as u64
-    }
-}
-
-impl Condition for Pairs<'_> {
-    ghost can = { λ s k. k < 3 };
-
-    ghost holds = { λ s k. PairOk s.file.bytes.now k };
-
-    fn holds_at(&self, k: usize) -> bool {
-        let bytes = self.file.bytes;
-        let offset = u32_at(bytes, 4 + 8 * k) as u64;
-        let size = u32_at(bytes, 8 + 8 * k);
-        let unit = unit_of(k);
-        floor_of(bytes, k) <= offset
-            && offset + size as u64 <= bytes.len() as u64
-            && size % unit == 0
-            && least_of(k) <= size / unit
-            && size / unit <= most_of(k)
-    }
-}
-
-#[derive(Clone, Copy)]
-struct Masks<'a> {
-    file: File<'a>,
-}
+use crate::section::{SECTIONS, Section};
+use fault::{Fault, Refusal, first};
+use lent_bytes::{byte_at, u16_at};
 
 // No bit of the mask from event e + 2 on.
 fn within(mask: u64, e: u8) -> bool
@@ -78,172 +20,146 @@ fn within(mask: u64, e: u8) -> bool
     e == 62 || mask >> (e + 2) == 0
 }
 
-impl Condition for Masks<'_> {
-    ghost can = { λ s k. (k < 2 ^ 32) × (events s.file.bytes.now ≤ 62) };
-
-    ghost holds = { λ s k. MaskOk s.file.bytes.now k };
-
-    fn holds_at(&self, k: usize) -> bool {
-        let mask = self.file.mask_at(k);
-        let events = self.file.events();
-        mask % 4 == 0 && within(mask, events)
+impl File<'_> {
+    fn length_ok(&self) -> bool
+        ensures { Decides result (LengthOk self.now.bytes.now) }
+    {
+        self.bytes.len() >= 28 && self.bytes.len() <= 65536
     }
-}
 
-#[derive(Clone, Copy)]
-struct Fields<'a> {
-    file: File<'a>,
-}
+    fn head_ok(&self) -> bool
+        ensures { Decides result (HeadOk self.now.bytes.now) }
+    {
+        u16_at(self.bytes, 0) == 1 && self.events() <= 62 && byte_at(self.bytes, 3) == 3
+    }
 
-impl Fields<'_> {
+    // Where a section ends.
+    fn end(&self, section: Section) -> u64
+        ensures { result ≡ floor self.now.bytes.now (place section + 1) }
+    {
+        self.offset(section) as u64 + self.size(section) as u64
+    }
+
+    // Where a section may begin.
+    fn floor(&self, section: Section) -> u64
+        ensures { result ≡ floor self.now.bytes.now (place section) }
+    {
+        match section {
+            Section::Masks => 28,
+            Section::Rows => self.end(Section::Masks),
+            Section::Definitions => self.end(Section::Rows),
+        }
+    }
+
+    fn pair_ok(&self, section: Section) -> bool
+        ensures { Decides result (PairOk self.now.bytes.now (place section)) }
+    {
+        let size = self.size(section);
+        let unit = section.unit();
+        self.floor(section) <= self.offset(section) as u64
+            && self.end(section) <= self.bytes.len() as u64
+            && size % unit == 0
+            && section.least() <= size / unit
+            && size / unit <= section.most()
+    }
+
+    fn mask_ok(&self, k: u32) -> bool
+        requires { events self.now.bytes.now ≤ 62 }
+        ensures { Decides result (MaskOk self.now.bytes.now k) }
+    {
+        let mask = self.mask_at(k);
+        mask % 4 == 0 && within(mask, self.events())
+    }
+
     // Whether a value may stand in a field of row i.
-    fn field(&self, i: usize, field: Use, value: u16) -> bool
-        ensures { Decides result (FieldOk self.now.file.bytes.now i field value) }
+    fn field_ok(&self, i: u32, field: Use, value: u16) -> bool
+        ensures { Decides result (FieldOk self.now.bytes.now i field value) }
     {
         match field {
             Use::Unused => value == 0,
-            Use::Event => 2 <= value && value < self.file.events() as u16 + 2,
-            Use::Mask => (value as usize) < self.file.masks(),
-            Use::Part => (value as usize) < i,
-            Use::Definition => (value as usize) < self.file.definitions(),
+            Use::Event => 2 <= value && value < self.events() as u16 + 2,
+            Use::Mask => (value as usize) < self.masks(),
+            Use::Part => (value as u32) < i,
+            Use::Definition => (value as usize) < self.definitions(),
         }
     }
 
-    fn fields(&self, i: usize, op: Op) -> bool
-        requires { i < 2 ^ 32 }
-        ensures { Decides result (FieldsOk self.now.file.bytes.now i op) }
+    fn fields_ok(&self, i: u32, op: Op) -> bool
+        ensures { Decides result (FieldsOk self.now.bytes.now i op) }
     {
         let shape = op.shape();
-        let file = self.file;
-        self.field(i, shape.argument, file.argument_at(i) as u16)
-            && self.field(i, shape.left, file.left_at(i))
-            && self.field(i, shape.right, file.right_at(i))
-            && file.spare_at(i) == 0
+        self.field_ok(i, shape.argument, self.argument_at(i) as u16)
+            && self.field_ok(i, shape.left, self.left_at(i))
+            && self.field_ok(i, shape.right, self.right_at(i))
+            && self.spare_at(i) == 0
     }
-}
 
-impl Condition for Fields<'_> {
-    ghost can = { λ s k. k < 2 ^ 32 };
-
-    ghost holds = { λ s k. RowOk s.file.bytes.now k };
-
-    fn holds_at(&self, i: usize) -> bool {
-        match self.file.op_at(i) {
+    fn row_ok(&self, i: u32) -> bool
+        ensures { Decides result (RowOk self.now.bytes.now i) }
+    {
+        match self.op_at(i) {
             None => false,
-            Some(op) => self.fields(i, op),
+            Some(op) => self.fields_ok(i, op),
         }
     }
-}
 
-#[derive(Clone, Copy)]
-struct Differs<'a> {
-    file: File<'a>,
-    from: u64,
-}
-
-impl Condition for Differs<'_> {
-    ghost can = { λ s k. k < 2 ^ 32 };
-
-    ghost holds = { λ s k. row_bytes_lem s.file.bytes.now k ≢ s.from };
-
-    fn holds_at(&self, k: usize) -> bool {
-        self.file.row_bytes(k) != self.from
+    // Whether row i is none of those before it.
+    fn row_new(&self, i: u32) -> bool
+        ensures { Decides result (RowNew self.now.bytes.now i) }
+    {
+        let bytes = self.row_bytes(i);
+        (0..i).all(|k| self.row_bytes(k) != bytes)
     }
-}
 
-#[derive(Clone, Copy)]
-struct NewRows<'a> {
-    file: File<'a>,
-}
-
-impl Condition for NewRows<'_> {
-    ghost can = { λ s k. k < 2 ^ 32 };
-
-    ghost holds = { λ s k. RowNew s.file.bytes.now k };
-
-    fn holds_at(&self, i: usize) -> bool {
-        let earlier = Differs {
-            file: self.file,
-            from: self.file.row_bytes(i),
-        };
-        first(&earlier, i, Refusal::FileRepeat).is_ok()
-    }
-}
-
-#[derive(Clone, Copy)]
-struct Bodies<'a> {
-    file: File<'a>,
-}
-
-impl Condition for Bodies<'_> {
-    ghost can = { λ s k. k < 2 ^ 32 };
-
-    ghost holds = { λ s k. DefinitionOk s.file.bytes.now k };
-
-    fn holds_at(&self, d: usize) -> bool {
-        (self.file.definition_at(d) as usize) < self.file.rows()
+    fn body_ok(&self, d: u32) -> bool
+        ensures { Decides result (DefinitionOk self.now.bytes.now d) }
+    {
+        (self.definition_at(d) as usize) < self.rows()
     }
 }
 
 fn check_length(file: File) -> Result<(), Fault>
     ensures { Passes (length_rule file.entry.bytes.now) result }
 {
-    if file.bytes.len() >= 28 && file.bytes.len() <= 65536 {
-        Ok(())
-    } else {
-        Err(Fault {
-            refusal: Refusal::FileLength,
-            place: 0,
-        })
-    }
+    first(|_| file.length_ok(), 1, Refusal::FileLength)
 }
 
 fn check_head(file: File) -> Result<(), Fault>
     ensures { Passes (head_rule file.entry.bytes.now) result }
 {
-    if u16_at(file.bytes, 0) == 1
-        && file.events() <= 62
-        && lent_bytes::byte_at(file.bytes, 3) == 3
-    {
-        Ok(())
-    } else {
-        Err(Fault {
-            refusal: Refusal::FileHead,
-            place: 0,
-        })
-    }
+    first(|_| file.head_ok(), 1, Refusal::FileHead)
 }
 
 fn check_pairs(file: File) -> Result<(), Fault>
     ensures { Passes (pair_rule file.entry.bytes.now) result }
 {
-    first(&Pairs { file }, 3, Refusal::FilePair)
+    first(|k| file.pair_ok(SECTIONS[k]), 3, Refusal::FilePair)
 }
 
 fn check_masks(file: File) -> Result<(), Fault>
     requires { events file.bytes.now ≤ 62 }
     ensures { Passes (mask_rule file.entry.bytes.now) result }
 {
-    first(&Masks { file }, file.masks(), Refusal::FileMask)
+    first(|k| file.mask_ok(k as u32), file.masks(), Refusal::FileMask)
 }
 
 fn check_rows(file: File) -> Result<(), Fault>
     ensures { Passes (row_rule file.entry.bytes.now) result }
 {
-    first(&Fields { file }, file.rows(), Refusal::FileRow)
+    first(|i| file.row_ok(i as u32), file.rows(), Refusal::FileRow)
 }
 
 fn check_repeats(file: File) -> Result<(), Fault>
     ensures { Passes (repeat_rule file.entry.bytes.now) result }
 {
-    first(&NewRows { file }, file.rows(), Refusal::FileRepeat)
+    first(|i| file.row_new(i as u32), file.rows(), Refusal::FileRepeat)
 }
 
 fn check_definitions(file: File) -> Result<(), Fault>
     ensures { Passes (definition_rule file.entry.bytes.now) result }
 {
     first(
-        &Bodies { file },
+        |d| file.body_ok(d as u32),
         file.definitions(),
         Refusal::FileDefinition,
     )

@@ -1,24 +1,12 @@
 // The heights of the processes, by row number: rows share parts, so nothing walks them as trees.
-ghost use Rattle.std.specs.Prelude.{◌≡◌, ◌≤◌};
+ghost use Rattle.std.specs.Prelude.{◌≤◌};
 ghost use Rattle.fault.specs.Judged.{Everywhere, Passes};
 ghost use Rattle.model.specs.File.{rows};
 ghost use Rattle.model.specs.Rules.{row_rule, height_rule};
-ghost use Rattle.model.specs.Tall.{height_field};
 
 use crate::file::File;
-use crate::op::Use;
 use fault::{Fault, Refusal};
 use lent_bytes::byte_at;
-
-// The height that a field adds, by the heights of the rows before.
-fn part_height(heights: &[u8], field: Use, part: u16) -> u8
-    ensures { result ≡ height_field field heights.now part }
-{
-    match field {
-        Use::Part => byte_at(heights, part as usize),
-        Use::Unused | Use::Event | Use::Mask | Use::Definition => 0,
-    }
-}
 
 // Whether no process is higher than 64.
 pub(crate) fn check_heights(file: File) -> Result<(), Fault>
@@ -26,20 +14,21 @@ pub(crate) fn check_heights(file: File) -> Result<(), Fault>
     requires fit { Everywhere (row_rule file.bytes.now) }
     ensures { Passes (height_rule file.entry.bytes.now) result }
 {
+    // A fixed array, since the check allocates nothing; an index, since a row reads the heights of earlier rows.
     let mut heights = [0u8; 4096];
-    for i in 0..file.rows() {
-        let row = file.row_at(i);
+    for place in 0..file.rows() {
+        let row = file.row_at(place as u32);
         let shape = row.op.shape();
-        let left = part_height(&heights, shape.left, row.left);
-        let right = part_height(&heights, shape.right, row.right);
+        let left = shape.left.part_or_default(byte_at(&heights, row.left as usize));
+        let right = shape.right.part_or_default(byte_at(&heights, row.right as usize));
         let high = left.max(right);
         if high >= 64 {
             return Err(Fault {
                 refusal: Refusal::FileHeight,
-                place: i,
+                place,
             });
         }
-        heights[i] = high + 1;
+        heights[place] = high + 1;
     }
     Ok(())
 }

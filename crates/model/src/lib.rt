@@ -9,6 +9,7 @@ mod heights;
 pub mod models;
 pub mod op;
 mod opens;
+mod section;
 
 pub use checks::check;
 pub use drafted::{Drafted, Settled};

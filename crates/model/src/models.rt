@@ -1,11 +1,11 @@
 // Taking up a file as a drafted model, and a drafted model as a settled one.
 ghost use Rattle.std.specs.Prelude.{◌≡◌, ℕ, ◌<◌, ◌≤◌, false};
-ghost use Rattle.fault.specs.Judged.{Exact, Passes};
+ghost use Rattle.fault.specs.Judged.{Exact};
 ghost use Rattle.lent_bytes.specs.Bits.{bit};
 ghost use Rattle.model.specs.File.{rows, process};
 ghost use Rattle.model.specs.Models.{drafted_file, settled_file};
 ghost use Rattle.model.specs.Opening.{OpenedAs};
-ghost use Rattle.model.specs.Rules.{open_rule, settle_rules};
+ghost use Rattle.model.specs.Rules.{settle_rules};
 ghost use Rattle.model.specs.Sound.{Facts, Lower, TakenUp, SettledUp};
 
 use crate::checks::check;
@@ -48,18 +48,12 @@ impl<'a> Drafted<'a> {
         self.file
     }
 
-    fn judge(&self) -> Result<(), Fault>
-        ensures { Passes (open_rule (drafted_file self.now)) result }
-    {
-        check_opens(self.file)
-    }
-
     // Whether the model is settled, or the lowest definition whose body has a wrong one open. The model
     // stays drafted either way.
     pub fn check_settled(&self) -> Result<(), Fault>
         ensures { Exact (settle_rules (drafted_file self.now)) result }
     {
-        self.judge()
+        check_opens(self)
     }
 
     // The definitions that are open in row i, as bits; none past the rows.
@@ -67,13 +61,10 @@ impl<'a> Drafted<'a> {
         ensures row { i < rows (drafted_file self.now) → OpenedAs result (process (drafted_file self.now) i) }
         ensures past { rows (drafted_file self.now) ≤ i → result ≡ 0 }
     {
-        let file = self.file;
-        if i >= file.rows() {
+        if i >= self.file.rows() {
             return 0;
         }
-        let mut sets = [0u64; 4096];
-        open_sets(file, &mut sets);
-        set_at(&sets, i)
+        set_at(&open_sets(self), i)
     }
 
     // The model's bytes if it is settled, else the file without rows.

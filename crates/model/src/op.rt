@@ -1,5 +1,6 @@
 // The operators of a process, what each field of a row means for them, and a row.
-ghost use Rattle.std.specs.Prelude.{◌≡◌};
+ghost use Rattle.std.specs.Prelude.{◌≡◌, ◌≢◌};
+ghost use Rattle.model.specs.declared.op.Use.TheVariants.{Part};
 ghost use Rattle.model.specs.Ops.{shape, op_of};
 
 // An operator with its argument. Omega is the process that has ended; it stands in no file.
@@ -47,6 +48,19 @@ pub struct Row {
     pub op: Op,
     pub left: u16,
     pub right: u16,
+}
+
+impl Use {
+    // What the field's part gives where the field holds one, else the default.
+    pub fn part_or_default<T: Default + Drop>(self, part: T) -> T
+        ensures part { self ≡ Part → result ≡ part }
+        ensures other { self ≢ Part → T.is_default result }
+    {
+        match self {
+            Use::Part => part,
+            Use::Unused | Use::Event | Use::Mask | Use::Definition => T::default(),
+        }
+    }
 }
 
 impl Op {

@@ -1,20 +1,20 @@
 // The definitions that are open in each row, by row number: rows share parts, so nothing walks them as trees.
-ghost use Rattle.std.specs.Prelude.{◌≡◌, ℕ, ◌^◌, ◌<◌, ◌≤◌, length, if◌then◌else◌, nat_lt, slice_index};
+ghost use Rattle.std.specs.Prelude.{◌≡◌, ◌^◌, ◌<◌, ◌≤◌, length, Decides, if◌then◌else◌, nat_lt, slice_index};
 ghost use Rattle.fault.specs.Judged.{Passes};
-ghost use Rattle.model.specs.File.{rows, rows_of, definitions};
+ghost use Rattle.model.specs.File.{rows, definitions};
+ghost use Rattle.model.specs.Models.{drafted_file};
 ghost use Rattle.model.specs.Opening.{open_set_lem, OpenedBelow};
-ghost use Rattle.model.specs.Rows.{AllFit};
 ghost use Rattle.model.specs.Rules.{OpenOk, open_rule};
-ghost use Rattle.model.specs.Sound.{Bodied, Named};
 
-use crate::file::File;
+use crate::drafted::Drafted;
 use crate::op::{Op, Row};
-use fault::{Condition, Fault, Refusal, first};
+use fault::{Fault, Refusal, first};
 
+// The set of a row, empty past the rows.
 pub(crate) fn set_at(sets: &[u64], row: usize) -> u64
     ensures { result ≡ slice_index sets.now row }
 {
-    if row < sets.len() { sets[row] } else { 0 }
+    sets.get(row).copied().unwrap_or(0)
 }
 
 // The set of one definition.
@@ -38,56 +38,38 @@ fn open_set(row: Row, sets: &[u64]) -> u64
     }
 }
 
-// Writes the open definitions of each row.
-pub(crate) fn open_sets(file: File, sets: &mut [u64])
-    requires room { rows file.bytes.now ≤ length sets.old }
-    requires few { definitions file.bytes.now ≤ 64 }
-    requires fit { AllFit (rows_of file.bytes.now) }
-    requires named { Named file.bytes.now }
-    ensures { OpenedBelow file.entry.bytes.now sets.new (rows file.entry.bytes.now) }
+// The open definitions of each row, in a fixed array since settling allocates nothing.
+pub(crate) fn open_sets(draft: &Drafted) -> [u64; 4096]
+    ensures { OpenedBelow (drafted_file draft.now) result (rows (drafted_file draft.now)) }
 {
+    let file = draft.file;
+    let mut sets = [0u64; 4096];
+    // An index, since a row reads the sets of earlier rows.
     for i in 0..file.rows() {
-        let row = file.row_at(i);
-        let set = open_set(row, sets);
+        let set = open_set(file.row_at(i as u32), &sets);
         sets[i] = set;
     }
+    sets
 }
 
-#[derive(Clone, Copy)]
-struct Bodies<'a> {
-    bytes: &'a [u8],
-    sets: &'a [u64],
-}
-
-impl Condition for Bodies<'_> {
-    ghost can = { λ s d. (d < 64) × (d < definitions s.bytes.now) × Bodied s.bytes.now × OpenedBelow s.bytes.now s.sets.now (rows s.bytes.now) };
-
-    ghost holds = { λ s d. OpenOk s.bytes.now d };
-
-    fn holds_at(&self, d: usize) -> bool {
-        let file = File { bytes: self.bytes };
-        let set = set_at(self.sets, file.definition_at(d) as usize);
-        set >> d == 0
-    }
+// Whether the body of definition d has only lower definitions open.
+fn body_lower(draft: &Drafted, sets: &[u64], d: usize) -> bool
+    requires known { OpenedBelow (drafted_file draft.now) sets.now (rows (drafted_file draft.now)) }
+    requires there { d < definitions (drafted_file draft.now) }
+    ensures { Decides result (OpenOk (drafted_file draft.now) d) }
+{
+    let body = draft.file.definition_at(d as u32);
+    set_at(sets, body as usize) >> d == 0
 }
 
 // Whether the body of each definition has only lower definitions open.
-pub(crate) fn check_opens(file: File) -> Result<(), Fault>
-    requires room { rows file.bytes.now ≤ 4096 }
-    requires few { definitions file.bytes.now ≤ 64 }
-    requires fit { AllFit (rows_of file.bytes.now) }
-    requires named { Named file.bytes.now }
-    requires bodied { Bodied file.bytes.now }
-    ensures { Passes (open_rule file.entry.bytes.now) result }
+pub(crate) fn check_opens(draft: &Drafted) -> Result<(), Fault>
+    ensures { Passes (open_rule (drafted_file draft.now)) result }
 {
-    let mut sets = [0u64; 4096];
-    open_sets(file, &mut sets);
+    let sets = open_sets(draft);
     first(
-        &Bodies {
-            bytes: file.bytes,
-            sets: &sets,
-        },
-        file.definitions(),
+        |d| body_lower(draft, &sets, d),
+        draft.file.definitions(),
         Refusal::ModelOpen,
     )
 }

@@ -3,8 +3,8 @@ use Rattle.model.specs.File.{process}
 use Rattle.model.specs.Terms.{height}
 use Rattle.model.proofs.heights.check_heights.Given as goal
 
-abbrev pub invariant-loop-i : goal.invariant-loop-i
-invariant-loop-i l =
+abbrev pub invariant-loop-place : goal.invariant-loop-place
+invariant-loop-place l =
     (length l.heights ≡ 4096)
-    × ((k : ℕ) → k < l.i → get_or l.heights k 0 ≡ height (process l.file.bytes.now k))
-    × ((k : ℕ) → k < l.i → height (process l.file.bytes.now k) ≤ 64)
+    × ((k : ℕ) → k < l.place → get_or l.heights k 0 ≡ height (process l.file.bytes.now k))
+    × ((k : ℕ) → k < l.place → height (process l.file.bytes.now k) ≤ 64)

@@ -4,4 +4,4 @@ use Rattle.model.proofs.drafted.Drafted.check_settled.Goals as goal
 
 pub returns : goal.returns
 unfolding settle_rules
-returns c = exactly (settle_rules _) c.judge.result (alone (open_rule _) c.judge.result c.judge.ensures)
+returns c = exactly (settle_rules _) c.check_opens.result (alone (open_rule _) c.check_opens.result c.check_opens.ensures)

@@ -1,0 +1,9 @@
+use Rattle.std.proofs.Common.{rules, refl}
+use Rattle.fault.proofs.Trying.{passes}
+use Rattle.fault.specs.declared.refusal.Refusal.TheVariants.{FileMask}
+use Rattle.model.specs.File.{rows, masks, definitions}
+use Rattle.model.specs.Rules.{MaskOk}
+use Rattle.model.proofs.checks.check_masks.Goals as goal
+
+pub returns : goal.returns
+returns c = passes (MaskOk c.args.file.bytes.now) FileMask (masks c.args.file.bytes.now) _ c.first.result c.first.ensures c.masks.ensures.value (λ k b h p. search rules)
