@@ -4,24 +4,16 @@ ghost use Rattle.first_seen.specs.Cleared.{cleared};
 ghost use Rattle.first_seen.specs.Seen.{gathered};
 ghost use Rattle.first_seen_cases.specs.Told.{told};
 
-use first_seen::{Blank, Clearing, Noted, Same, note};
+use first_seen::{Blank, Clearing, FirstSeen, Full, Same};
 
-// The rows do not suffice.
-#[derive(Clone, Copy)]
-pub struct Short;
-
-pub fn gather<T: Same + Blank>(rows: &mut [T], xs: &[T]) -> Result<usize, Short>
+pub fn gather<T: Same + Blank>(rows: &mut [T], xs: &[T]) -> Result<usize, Full>
     ensures value { result ≡ told (gathered T.alike (length rows.old) xs.now []) }
     ensures blank { rows.new ≡ cleared T.blank rows.old }
 {
-    let mut guard = Clearing { rows };
-    let mut n = 0;
+    let guard = Clearing { rows };
+    let mut list = FirstSeen::over(guard.rows, 0);
     for x in xs {
-        match note(guard.rows, n, *x) {
-            Noted::Full => return Err(Short),
-            Noted::Found(_) => {}
-            Noted::Placed(_) => n += 1,
-        }
+        list.note(*x)?;
     }
-    Ok(n)
+    Ok(list.len())
 }

@@ -1,6 +1,6 @@
 use crate::gather::gather;
 use crate::kinds::Work;
-use first_seen::{Noted, Unfinished, find, note};
+use first_seen::{FirstSeen, Full, Noted, Unfinished, find};
 
 fn row(design: u16, spec: u16, parent: u16) -> Work<u16, u16> {
     Work {
@@ -25,12 +25,17 @@ fn three_of_four_rows(rt: HostRuntime) {
 #[test]
 fn found_placed_full(rt: HostRuntime) {
     let mut rows: [u16; 2] = [5, 5];
-    assert!(rt; matches!(find(&rows, 0, &5), None));
-    assert!(rt; matches!(find(&rows, 9, &5), Some(0)));
-    assert!(rt; matches!(note(&mut rows, 1, 5), Noted::Found(0)));
-    assert!(rt; matches!(note(&mut rows, 1, 7), Noted::Placed(1)));
-    assert!(rt; matches!(note(&mut rows, 2, 8), Noted::Full));
-    assert!(rt; matches!(note(&mut rows, 3, 7), Noted::Found(1)));
+    assert!(rt; FirstSeen::over(&mut rows, 0).find(&5).is_none());
+    assert!(rt; FirstSeen::over(&mut rows, 9).find(&5) == Some(0));
+    assert!(rt; find(&rows, &5) == Some(0));
+    let mut list = FirstSeen::over(&mut rows, 1);
+    assert!(rt; list.room() == 2);
+    assert!(rt; list.note(5) == Ok(Noted::Found(0)));
+    assert!(rt; list.note(7) == Ok(Noted::Placed(1)));
+    assert!(rt; list.note(8) == Err(Full));
+    assert!(rt; list.items()[1] == 7);
+    let mut all = FirstSeen::over(&mut rows, 3);
+    assert!(rt; all.note(7) == Ok(Noted::Found(1)));
     assert!(rt; rows[1] == 7);
 }
 

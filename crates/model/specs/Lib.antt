@@ -10,3 +10,4 @@ pub mod Opening
 pub mod Models
 pub mod Sameness
 pub mod Sections
+pub mod Words

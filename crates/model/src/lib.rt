@@ -10,6 +10,7 @@ pub mod models;
 pub mod op;
 mod opens;
 mod section;
+pub mod words;
 
 pub use checks::check;
 pub use drafted::{Drafted, Settled};

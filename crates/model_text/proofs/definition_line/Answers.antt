@@ -2,14 +2,14 @@ use Rattle.std.proofs.Common.{◌≡◌, ℕ, ◌<◌, cond, ltb, List, ◌++◌
 use Rattle.model.specs.File.{rows, definitions, definition_at_lem, body, process}
 use Rattle.model.specs.Models.{drafted_file}
 use Rattle.model.specs.Opening.{open_of}
-use Rattle.model_text.specs.Text.{set_text_lem, definition_line}
+use Rattle.model_text.specs.Text.{set_text_lem, definition_line_lem}
 use Rattle.model_text.proofs.Readers.{read_or}
-use Rattle.model_text.proofs.DefinitionsLines.line.Goals as goal
+use Rattle.model_text.proofs.definition_line.Goals as goal
 
 pub returns : goal.returns
-unfolding definition_line
+unfolding definition_line_lem
 returns c =
-    let m = c.args.self.now.draft.now in
+    let m = c.args.draft.now in
     let b : List ℕ = drafted_file m in
     let d : ℕ = c.args.d in
     let r : ℕ = c.unwrap_or-body.result in
@@ -18,7 +18,7 @@ returns c =
     in
     let e : r ≡ definition_at_lem b d = c.unwrap_or-body.ensures ∙ read_or d (definitions b) _ _ 0 c.requires told in
     let lt : r < rows b = subst (λ (z : ℕ). z < rows b) (sym e) (m.bodied d c.requires) in
-    let o : c.open_in-open.result ≡ open_of (body b d) = (c.open_in-open.ensures.row lt).value ∙ ap (λ (z : ℕ). open_of (process b z)) e in
+    let o : c.open_in.result ≡ open_of (body b d) = (c.open_in.ensures.row lt).value ∙ ap (λ (z : ℕ). open_of (process b z)) e in
     let t : string_bytes c.in_ok-set.set ≡ set_text_lem (codes "N") (open_of (body b d)) = c.in_ok-set.ensures ∙ ap (set_text_lem (codes "N")) o in
     let P : ℕ → List ℕ → Type 0 = λ x bs. IfOk c.format.result (λ s. string_bytes s ≡ codes "N" ++ (decimal d ++ (codes " = R" ++ (decimal x ++ (codes " opens " ++ (bs ++ codes "\n")))))) in
     subst (λ (x : ℕ). P x (set_text_lem (codes "N") (open_of (body b d)))) e (subst (P r) t c.format.ensures.ok)
