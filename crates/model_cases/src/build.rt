@@ -87,8 +87,7 @@ pub fn patched(mut file: Vec<u8>, at: usize, bytes: &[u8]) -> Vec<u8> {
 
 // The file with zeros up to a length.
 pub fn padded(mut file: Vec<u8>, length: usize) -> Result<Vec<u8>, AllocError> {
-    for _ in file.len()..length {
-        file.push(0)?;
-    }
+    let length = file.len().max(length);
+    file.resize(length, 0)?;
     Ok(file)
 }

@@ -237,22 +237,34 @@ fn ends(rt: &impl Print, heap: Global) -> anyhow::Result<()> {
     )
 }
 
-fn counts(rt: &impl Print, heap: Global, n: u16, of: &str) -> anyhow::Result<()> {
+#[derive(Clone, Copy)]
+enum Entry {
+    Mask,
+    Row,
+    Definition,
+}
+
+// So many entries of a kind.
+fn counts(rt: &impl Print, heap: Global, n: u16, of: Entry) -> anyhow::Result<()> {
     let mut parts = Parts::new(heap, 62);
-    if of == "rows" {
-        parts.many_rows(n)?;
-    } else {
-        parts.row(0, 0, 0, 0)?;
-        for _ in 0..n {
-            if of == "masks" {
-                parts.masks.push(0)?;
-            } else {
-                parts.bodies.push(0)?;
-            }
+    let name = match of {
+        Entry::Mask => {
+            parts.row(0, 0, 0, 0)?;
+            parts.masks.resize(n as usize, 0)?;
+            "masks"
         }
-    }
+        Entry::Row => {
+            parts.many_rows(n)?;
+            "rows"
+        }
+        Entry::Definition => {
+            parts.row(0, 0, 0, 0)?;
+            parts.bodies.resize(n as usize, 0)?;
+            "definitions"
+        }
+    };
     println!(rt; "{n} of")?;
-    report(rt, of, parts.file(heap)?.as_slice())
+    report(rt, name, parts.file(heap)?.as_slice())
 }
 
 fn heights(rt: &impl Print, heap: Global) -> anyhow::Result<()> {
@@ -347,9 +359,9 @@ fn main(rt: HostRuntime) -> anyhow::Result<()> {
     patches(&rt, heap)?;
     ends(&rt, heap)?;
     for n in [64, 65] {
-        counts(&rt, heap, n, "masks")?;
-        counts(&rt, heap, n, "definitions")?;
-        counts(&rt, heap, n + 4032, "rows")?;
+        counts(&rt, heap, n, Entry::Mask)?;
+        counts(&rt, heap, n, Entry::Definition)?;
+        counts(&rt, heap, n + 4032, Entry::Row)?;
     }
     heights(&rt, heap)?;
     masks(&rt, heap)?;

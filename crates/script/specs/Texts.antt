@@ -8,9 +8,12 @@ use Rattle.script.specs.declared.record.Record.{Record}
 use Rattle.script.specs.declared.record.Verdict.{Verdict}
 use Rattle.script.specs.declared.record.Verdict.TheVariants.{Holds, Fails, Refused}
 
-abbrev pub asked_text_lem : Option Asked → List ℕ
-asked_text_lem None = codes "- -"
-asked_text_lem (Some a) = decimal a.design ++ (codes " " ++ decimal a.spec)
+abbrev pub rows_text : Asked → List ℕ
+rows_text a = decimal a.design ++ (codes " " ++ decimal a.spec)
+
+abbrev pub asked_text : Option Asked → List ℕ
+asked_text None = codes "- -"
+asked_text (Some a) = rows_text a
 
 -- an event after a space
 abbrev pub event_text : ℕ → List ℕ
@@ -19,14 +22,18 @@ event_text e = codes " " ++ decimal e
 abbrev pub fault_text : Fault → List ℕ
 fault_text f = decimal (number f.refusal) ++ (codes " " ++ decimal f.place)
 
-abbrev pub verdict_text_lem : Verdict → List ℕ
-verdict_text_lem (Holds n) = codes "HOLDS " ++ decimal n
-verdict_text_lem (Fails n es) = codes "FAILS " ++ decimal n ++ flat_map event_text es.now
-verdict_text_lem (Refused f) = codes "REFUSED " ++ fault_text f
+abbrev pub verdict_text : Verdict → List ℕ
+verdict_text (Holds n) = codes "HOLDS " ++ decimal n
+verdict_text (Fails n es) = codes "FAILS " ++ decimal n ++ flat_map event_text es.now
+verdict_text (Refused f) = codes "REFUSED " ++ fault_text f
 
--- a record's line: the rows, the verdict and its numbers
+-- a record: the rows, the verdict and its numbers
+abbrev pub outcome_text : Record → List ℕ
+outcome_text r = asked_text r.asked ++ (codes " " ++ verdict_text r.verdict)
+
+-- a record's line
 unfoldable pub record_text : Record → List ℕ
-record_text r = asked_text_lem r.asked ++ (codes " " ++ (verdict_text_lem r.verdict ++ codes "\n"))
+record_text r = outcome_text r ++ codes "\n"
 
 -- the line of a model that is refused
 unfoldable pub model_line_lem : Fault → List ℕ

@@ -1,5 +1,5 @@
 // Reading a line: two row numbers with one space between them.
-ghost use Rattle.std.specs.Prelude.{◌≡◌, ℕ, ◌<◌, ◌≤◌, length, MatchOption, ◌≢◌, slice_index};
+ghost use Rattle.std.specs.Prelude.{◌≡◌, ℕ, MatchOption, position, ◌==◌};
 ghost use Rattle.script.specs.Lines.{Number, ReadLine};
 
 use crate::record::Asked;
@@ -25,18 +25,11 @@ fn number(digits: &[u8]) -> Option<u16>
     Some(n as u16)
 }
 
-// The place of the first space, or the length where there is none.
-fn space(line: &[u8]) -> usize
-    ensures within { result ≤ length line.now }
-    ensures before { (k : ℕ) → k < result → slice_index line.now k ≢ 32 }
-    ensures found { result < length line.now → slice_index line.now result ≡ 32 }
+// The place of the first space.
+fn space(line: &[u8]) -> Option<usize>
+    ensures { result ≡ position (λ b. b == 32) line.now }
 {
-    for (i, b) in line.iter().enumerate() {
-        if *b == 32 {
-            return i;
-        }
-    }
-    line.len()
+    line.iter().position(|b| *b == 32)
 }
 
 // The two row numbers of the line with the given number, counted from 1.
@@ -47,11 +40,10 @@ pub fn read_line(line: &[u8], place: usize) -> Result<Asked, Fault>
         refusal: Refusal::ScriptLine,
         place,
     };
-    let at = space(line);
-    if at >= line.len() {
+    let Some(at) = space(line) else {
         return Err(bad);
-    }
-    let Some(design) = number(&line[0..at]) else {
+    };
+    let Some(design) = number(&line[..at]) else {
         return Err(bad);
     };
     let Some(spec) = number(&line[at + 1..]) else {

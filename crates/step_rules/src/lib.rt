@@ -10,7 +10,7 @@ ghost use Rattle.step_rules.specs.Promises.{ListsTheSteps, OneList};
 use model::{Op, Settled};
 
 // Whose steps an operator reads for its own: those of its parts, or those of a definition's body.
-#[derive(Clone, Copy)]
+#[derive(Clone, Copy, PartialEq, Eq, Debug)]
 pub enum Reads {
     Nothing,
     Left,
@@ -30,22 +30,16 @@ pub fn reads_of(op: Op) -> Reads
 }
 
 // The theorem that the list of a term has exactly the steps that the rules derive.
-pub fn lists_the_steps() -> u8
+pub fn lists_the_steps()
     ensures { ListsTheSteps }
-{
-    0
-}
+{}
 
 // The theorem that in a settled model every term has exactly one list.
-pub fn one_list(model: &Settled) -> u8
+pub fn one_list(model: &Settled)
     ensures { OneList (settled_file model.now) }
-{
-    0
-}
+{}
 
 // The worked cases about steps, as one theorem over their list.
-pub fn cases_hold() -> u8
+pub fn cases_hold()
     ensures { CasesHold }
-{
-    0
-}
+{}
