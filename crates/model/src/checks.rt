@@ -1,7 +1,6 @@
 // Whether a model file is well formed: the conditions of refusals 1 to 8, tried in order.
-ghost use Rattle.std.specs.Prelude.{◌+◌, ◌^◌, ◌<◌, ◌≤◌, ◌≡◌, Decides};
+ghost use Rattle.std.specs.Prelude.{◌+◌, ◌^◌, ◌<◌, ◌≡◌, Decides};
 ghost use Rattle.fault.specs.Judged.{Exact, Judged, Passes};
-ghost use Rattle.model.specs.File.{events};
 ghost use Rattle.model.specs.Rules.{floor, FieldOk, FieldsOk, RowOk, RowNew, PairOk, MaskOk, DefinitionOk, LengthOk, HeadOk, length_rule, head_rule, pair_rule, mask_rule, row_rule, repeat_rule, definition_rule, file_rules, rules_in_order};
 ghost use Rattle.model.specs.Sections.{place};
 
@@ -14,10 +13,9 @@ use lent_bytes::{byte_at, u16_at};
 
 // No bit of the mask from event e + 2 on.
 fn within(mask: u64, e: u8) -> bool
-    requires { e ≤ 62 }
     ensures { Decides result (mask < 2 ^ (e + 2)) }
 {
-    e == 62 || mask >> (e + 2) == 0
+    e >= 62 || mask >> (e + 2) == 0
 }
 
 impl File<'_> {
@@ -64,7 +62,6 @@ impl File<'_> {
     }
 
     fn mask_ok(&self, k: u32) -> bool
-        requires { events self.now.bytes.now ≤ 62 }
         ensures { Decides result (MaskOk self.now.bytes.now k) }
     {
         let mask = self.mask_at(k);
@@ -137,7 +134,6 @@ fn check_pairs(file: File) -> Result<(), Fault>
 }
 
 fn check_masks(file: File) -> Result<(), Fault>
-    requires { events file.bytes.now ≤ 62 }
     ensures { Passes (mask_rule file.entry.bytes.now) result }
 {
     first(|k| file.mask_ok(k as u32), file.masks(), Refusal::FileMask)
