@@ -1,5 +1,6 @@
 -- What a fault says to a person. Assumes nothing.
 use Rattle.std.specs.Prelude.{ℕ, List, [], ◌++◌, Some, None, Option, codes, decimal}
+use Rattle.fault.specs.Listing.{number}
 use Rattle.fault.specs.declared.refusal.Fault.{Fault}
 use Rattle.fault.specs.declared.refusal.Refusal.{Refusal}
 use Rattle.fault.specs.declared.refusal.Refusal.TheVariants.{FileLength, FileHead, FilePair, FileMask, FileRow, FileRepeat, FileHeight, FileDefinition, ModelOpen, ProcessRow, ProcessRoom, TableLength, TablePair, TableStep, TableNormal, NormaliseStates, NormaliseRoom, SystemEvents, SearchRows, SearchBudget, SearchLent, SearchFull, TraceBuffer, AuditStart, AuditEvent, AuditPair, ScriptLine}
@@ -70,3 +71,7 @@ bracketed (Some n) place = codes " (" ++ (n ++ (codes " " ++ (decimal place ++ c
 
 abbrev pub told : Fault → List ℕ
 told f = words f.refusal ++ bracketed (noun f.refusal) f.place
+
+-- a fault as programs read it: its number and its place
+abbrev pub code_text : Fault → List ℕ
+code_text f = decimal (number f.refusal) ++ (codes " " ++ decimal f.place)

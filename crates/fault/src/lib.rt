@@ -7,3 +7,4 @@ pub mod words;
 
 pub use condition::first;
 pub use refusal::{Fault, Refusal};
+pub use words::Code;

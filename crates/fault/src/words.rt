@@ -1,6 +1,6 @@
 // What a fault says to a person: what is wrong, and where.
 ghost use Rattle.std.specs.Prelude.{◌≡◌, Some, None, MatchOption};
-ghost use Rattle.fault.specs.Words.{words, noun, told};
+ghost use Rattle.fault.specs.Words.{words, noun, told, code_text};
 
 use crate::refusal::{Fault, Refusal};
 use std::fmt;
@@ -97,5 +97,19 @@ impl fmt::Display for Fault {
             None => write!(f, "{words}"),
             Some(noun) => write!(f, "{words} ({noun} {place})"),
         }
+    }
+}
+
+// A fault as programs read it: its number and its place.
+#[derive(Clone, Copy, PartialEq, Eq, Debug)]
+pub struct Code(pub Fault);
+
+impl fmt::Display for Code {
+    ghost output = { λ c. Some (code_text c.0) };
+
+    fn fmt<W: fmt::Write>(&self, f: &mut fmt::Formatter<W>) -> fmt::Result {
+        let number = self.0.refusal.number();
+        let place = self.0.place;
+        write!(f, "{number} {place}")
     }
 }

@@ -4,8 +4,7 @@ use Rattle.std.specs.List.{range_with_len, flat_map}
 use Rattle.lent_bytes.specs.Bits.{bit}
 use Rattle.fault.specs.declared.refusal.Fault.{Fault}
 use Rattle.fault.specs.Judged.{Meets, FirstRefused}
-use Rattle.fault.specs.Listing.{number}
-use Rattle.fault.specs.Words.{told}
+use Rattle.fault.specs.Words.{code_text, told}
 use Rattle.model.specs.File.{events, masks, rows, definitions, mask_at_lem, row_at, definition_at_lem, body}
 use Rattle.model.specs.Opening.{open_of}
 use Rattle.model.specs.Rules.{file_rules, settle_rules}
@@ -41,7 +40,7 @@ model_text_lem b =
 -- a refusal after a word: its number and place, then a line in words
 unfoldable pub refusal_text_lem : List ℕ → Fault → List ℕ
 refusal_text_lem word f =
-    word ++ (codes " " ++ (decimal (number f.refusal) ++ (codes " " ++ (decimal f.place ++ (codes "\n" ++ (told f ++ codes "\n"))))))
+    word ++ (codes " " ++ (code_text f ++ (codes "\n" ++ (told f ++ codes "\n"))))
 
 -- a refused model
 abbrev pub refused_text_lem : Fault → List ℕ

@@ -10,7 +10,7 @@ ghost use Rattle.model.specs.Words.{row_text_lem};
 ghost use Rattle.model_text.specs.Text.{alphabet_text_lem, definition_line_lem, mask_line_lem, member_text_lem, model_text_lem, refusal_text_lem, refused_text_lem, row_line_lem, set_text_lem, Shows};
 
 use crate::lines::push_lines;
-use fault::Fault;
+use fault::{Code, Fault};
 use lent_bytes::bit_at;
 use model::{Drafted, File, Row, check};
 use std::alloc::{AllocError, Global};
@@ -103,9 +103,8 @@ fn model_text(heap: Global, draft: &Drafted) -> Result<String, AllocError>
 pub fn refusal_text(heap: Global, word: &str, fault: Fault) -> Result<String, AllocError>
     ensures { IfOk result (λ s. string_bytes s ≡ refusal_text_lem word.now fault) }
 {
-    let number = fault.refusal.number();
-    let place = fault.place;
-    format!(in heap; "{word} {number} {place}\n{fault}\n")
+    let code = Code(fault);
+    format!(in heap; "{word} {code}\n{fault}\n")
 }
 
 // A refused model.

@@ -1,7 +1,7 @@
 -- The lines that are written. Assumes nothing.
 use Rattle.std.specs.Prelude.{ℕ, List, ◌++◌, Some, None, codes, decimal, Option}
 use Rattle.std.specs.List.{flat_map}
-use Rattle.fault.specs.Listing.{number}
+use Rattle.fault.specs.Words.{code_text}
 use Rattle.fault.specs.declared.refusal.Fault.{Fault}
 use Rattle.script.specs.declared.record.Asked.{Asked}
 use Rattle.script.specs.declared.record.Record.{Record}
@@ -19,13 +19,10 @@ asked_text (Some a) = rows_text a
 abbrev pub event_text : ℕ → List ℕ
 event_text e = codes " " ++ decimal e
 
-abbrev pub fault_text : Fault → List ℕ
-fault_text f = decimal (number f.refusal) ++ (codes " " ++ decimal f.place)
-
 abbrev pub verdict_text : Verdict → List ℕ
 verdict_text (Holds n) = codes "HOLDS " ++ decimal n
 verdict_text (Fails n es) = codes "FAILS " ++ decimal n ++ flat_map event_text es.now
-verdict_text (Refused f) = codes "REFUSED " ++ fault_text f
+verdict_text (Refused f) = codes "REFUSED " ++ code_text f
 
 -- a record: the rows, the verdict and its numbers
 abbrev pub outcome_text : Record → List ℕ
@@ -37,4 +34,4 @@ record_text r = outcome_text r ++ codes "\n"
 
 -- the line of a model that is refused
 unfoldable pub model_line_lem : Fault → List ℕ
-model_line_lem f = codes "MODEL " ++ (decimal (number f.refusal) ++ (codes " " ++ (decimal f.place ++ codes "\n")))
+model_line_lem f = codes "MODEL " ++ (code_text f ++ codes "\n")

@@ -2,7 +2,7 @@
 ghost use Rattle.std.specs.Prelude.{Some};
 ghost use Rattle.script.specs.Texts.{rows_text, verdict_text, outcome_text};
 
-use fault::Fault;
+use fault::{Code, Fault};
 use std::fmt;
 
 // The rows of a design and of a specification.
@@ -52,9 +52,8 @@ impl fmt::Display for Verdict<'_> {
                 Ok(())
             }
             Verdict::Refused(fault) => {
-                let number = fault.refusal.number();
-                let place = fault.place;
-                write!(f, "REFUSED {number} {place}")
+                let code = Code(fault);
+                write!(f, "REFUSED {code}")
             }
         }
     }

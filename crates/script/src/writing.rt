@@ -3,7 +3,7 @@ ghost use Rattle.std.specs.Prelude.{◌≡◌, IfOk, string_bytes};
 ghost use Rattle.script.specs.Texts.{record_text, model_line_lem};
 
 use crate::record::Record;
-use fault::Fault;
+use fault::{Code, Fault};
 use std::alloc::{AllocError, Global};
 
 // The line of a record.
@@ -17,7 +17,6 @@ pub fn record_line(heap: Global, outcome: Record) -> Result<String, AllocError>
 pub fn model_line(heap: Global, fault: Fault) -> Result<String, AllocError>
     ensures { IfOk result (λ s. string_bytes s ≡ model_line_lem fault) }
 {
-    let number = fault.refusal.number();
-    let place = fault.place;
-    format!(in heap; "MODEL {number} {place}\n")
+    let code = Code(fault);
+    format!(in heap; "MODEL {code}\n")
 }
