@@ -60,7 +60,7 @@ impl From<Refusal> for Fault {
 }
 
 impl Refusal {
-    // The number that programs read, 1 to 27.
+    // The number that programs read, 1 to 27. A method and no `From`, since a refusal has a layer's number too.
     pub fn number(self) -> u8
         ensures { result ≡ number self }
     {

@@ -19,7 +19,7 @@ pub fn clear<T: Blank>(rows: &mut [T])
     }
 }
 
-// Working rows: blank again on every way out.
+// Working rows: blank again on every way out. A type of its own beside the next, since these rows can never be kept.
 pub struct Clearing<'a, T: Blank> {
     pub rows: &'a mut [T],
 }

@@ -87,7 +87,8 @@ impl Op {
         }
     }
 
-    // The operator of a kind, with its argument; a name's is in the left field. Kind 2 is in no file.
+    // The operator of a kind, with its argument; a name's is in the left field. Kind 2 is in no file. No `TryFrom`,
+    // since three numbers in a tuple would not say which is which.
     pub fn of(kind: u8, argument: u8, left: u16) -> Option<Op>
         ensures { result ≡ op_of kind argument left }
     {
