@@ -1,6 +1,8 @@
 -- Entries of lists by place: two entries at one place are equal, and an event's entry is the one that `follow` finds.
-use Rattle.std.proofs.Common.{◌≡◌, ℕ, zero, suc, ◌+◌, ◌<◌, ◌≤◌, eqb, List, [], ◌∷◌, map, length, get_or, drop, Some, None, sym, refl, ap, ◌∙◌, ⊎_elim, arith}
+use Rattle.std.proofs.Common.{◌≡◌, ℕ, zero, suc, ◌+◌, ◌<◌, ◌≤◌, eqb, List, [], ◌∷◌, map, length, get_or, drop, Some, None, Option, sym, refl, ap, ◌∙◌, ⊎_elim, arith}
 use Rattle.std.specs.List.{slice_get}
+use Rattle.std.specs.Iterator.{Yields, YieldsFirst}
+use Rattle.std.proofs.lemmas.Iterator.Consumers.{YieldsList-from_first, YieldsList-turn, YieldsList-end}
 use Rattle.std.proofs.lemmas.Option.{slice_get_read, slice_get-get_or, get_or_from_slice_get}
 use Rattle.std.proofs.lemmas.List.{drop_more, drop_all}
 use Rattle.std.proofs.lemmas.Bool.{cases_lt, cases_Bool, cond-true, cond-false, eqb-true, eq-eqb}
@@ -73,3 +75,13 @@ follow_only {S} m lone s t e l =
     let same : l.0 ≡ g.0 = lone.once s t f.0 l.0 g.0 e l.1 g.1 in
     let is : (e, f.0) ≡ (e, t) = some_same (e, f.0) (e, t) (sym g.1 ∙ (ap (slice_get (m.steps s)) (sym same) ∙ l.1)) in
     f.1 ∙ ap (λ (p : ℕ × S). Some p.1) is
+
+-- in a loop over an iterator that shows what is left: the item is the entry after those that were yielded, and at the end all were
+module _ {Z X : Type 0} (rest : Z → List X) {z : Z} (xs : List X) (whole : rest z ≡ xs) (ys : List X) (t : Z) (passed : Yields (YieldsFirst rest) z ys t) (r : Option X) (u : Z) (next : YieldsFirst rest t r u) where
+  pub entry_next : (x : X) → r ≡ Some x → slice_get xs (length ys) ≡ Some x
+  entry_next x is =
+      let h = YieldsList-turn (YieldsList-from_first (λ y. y) rest xs whole) ys t passed r u x is next in
+      nth_item xs (length ys) x h.0 h.1
+
+  pub entry_end : r ≡ None → length ys ≡ length xs
+  entry_end is = (YieldsList-end (YieldsList-from_first (λ y. y) rest xs whole) ys t passed r u is next).1
