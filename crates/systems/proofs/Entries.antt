@@ -1,30 +1,14 @@
 -- Entries of lists by place: two entries at one place are equal, and an event's entry is the one that `follow` finds.
-use Rattle.std.proofs.Common.{◌≡◌, ℕ, zero, suc, ◌+◌, ◌<◌, ◌≤◌, eqb, List, [], ◌∷◌, map, length, get_or, drop, Some, None, Option, sym, refl, ap, ◌∙◌, ⊎_elim, arith}
+use Rattle.std.proofs.Common.{◌≡◌, ℕ, zero, suc, ◌<◌, eqb, List, [], ◌∷◌, map, length, get_or, Some, sym, refl, ap, ◌∙◌, ⊎_elim, arith}
 use Rattle.std.specs.List.{slice_get}
-use Rattle.std.specs.Iterator.{Yields, YieldsFirst}
-use Rattle.std.proofs.lemmas.Iterator.Consumers.{YieldsList-from_first, YieldsList-turn, YieldsList-end}
-use Rattle.std.proofs.lemmas.Option.{slice_get_read, slice_get-get_or, get_or_from_slice_get}
-use Rattle.std.proofs.lemmas.List.{drop_more, drop_all}
-use Rattle.std.proofs.lemmas.Bool.{cases_lt, cases_Bool, cond-true, cond-false, eqb-true, eq-eqb}
-pub use Rattle.table.proofs.Entries.{some_same, some_not_none, nth_within}
+use Rattle.std.proofs.lemmas.Option.{slice_get_read}
+use Rattle.std.proofs.lemmas.Bool.{cases_Bool, cond-true, cond-false, eqb-true, eq-eqb}
+pub use Rattle.table.proofs.Entries.{some_same, some_not_none, nth_within, past_none, drop_entry, drop_none, entry_next, entry_end}
 pub use Rattle.systems.specs.Keeping.{map_entry}
 use Rattle.systems.specs.Meaning.{Lts, Listed, Steps, Lawful, follow, Lone}
 
 pub pair_same : {D S : Type 0} (p : D × S) (d : D) (s : S) → p.0 ≡ d → p.1 ≡ s → p ≡ (d, s)
 pair_same {D} {S} p d s a b = ap (λ (x : D). (x, p.1)) a ∙ ap (λ (y : S). (d, y)) b
-
-pub past_none : {X : Type 0} (xs : List X) (k : ℕ) → slice_get xs k ≡ None → length xs ≤ k
-past_none [] k e = omega arith
-past_none (x ∷ xs) k e = ⊎_elim (λ h. absurd (some_not_none (get_or (x ∷ xs) k x) (sym (slice_get-get_or (x ∷ xs) k x h) ∙ e))) (λ h. h) (cases_lt k (length (x ∷ xs)))
-
--- what is left from place k on begins with the entry there, and is nothing where there is none
-pub drop_entry : {X : Type 0} (xs : List X) (k : ℕ) (x : X) → slice_get xs k ≡ Some x → drop k xs ≡ x ∷ drop (k + 1) xs
-drop_entry xs k x at =
-    let h = nth_within xs k x at in
-    drop_more xs k x h ∙ ap (λ y. y ∷ drop (k + 1) xs) (get_or_from_slice_get xs k x x at)
-
-pub drop_none : {X : Type 0} (xs : List X) (k : ℕ) → slice_get xs k ≡ None → drop k xs ≡ []
-drop_none xs k e = drop_all k xs (past_none xs k e)
 
 -- what the step question answers: its place is within the list, which is short, and its event is below 64
 module _ {S : Type 0} (m : Lts S) (s : S) (k : ℕ) (x : ℕ × S) (at : Some x ≡ slice_get (m.steps s) k) where
@@ -75,13 +59,3 @@ follow_only {S} m lone s t e l =
     let same : l.0 ≡ g.0 = lone.once s t f.0 l.0 g.0 e l.1 g.1 in
     let is : (e, f.0) ≡ (e, t) = some_same (e, f.0) (e, t) (sym g.1 ∙ (ap (slice_get (m.steps s)) (sym same) ∙ l.1)) in
     f.1 ∙ ap (λ (p : ℕ × S). Some p.1) is
-
--- in a loop over an iterator that shows what is left: the item is the entry after those that were yielded, and at the end all were
-module _ {Z X : Type 0} (rest : Z → List X) {z : Z} (xs : List X) (whole : rest z ≡ xs) (ys : List X) (t : Z) (passed : Yields (YieldsFirst rest) z ys t) (r : Option X) (u : Z) (next : YieldsFirst rest t r u) where
-  pub entry_next : (x : X) → r ≡ Some x → slice_get xs (length ys) ≡ Some x
-  entry_next x is =
-      let h = YieldsList-turn (YieldsList-from_first (λ y. y) rest xs whole) ys t passed r u x is next in
-      nth_item xs (length ys) x h.0 h.1
-
-  pub entry_end : r ≡ None → length ys ≡ length xs
-  entry_end is = (YieldsList-end (YieldsList-from_first (λ y. y) rest xs whole) ys t passed r u is next).1

@@ -31,16 +31,10 @@ impl Register {
         ensures { MatchResult result (λ m. Apart up down iszero × (register m.limit m.up m.down m.iszero ≡ register limit up down iszero)) (λ f. (f ≡ fault SystemEvents 0) × (Apart up down iszero → ⊥)) }
     {
         if !visible(up) || !visible(down) || !visible(iszero) {
-            return Err(Fault {
-                refusal: Refusal::SystemEvents,
-                place: 0,
-            });
+            return Err(Refusal::SystemEvents.into());
         }
         if up == down || up == iszero || down == iszero {
-            return Err(Fault {
-                refusal: Refusal::SystemEvents,
-                place: 0,
-            });
+            return Err(Refusal::SystemEvents.into());
         }
         Ok(Register {
             limit,

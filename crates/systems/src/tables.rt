@@ -41,11 +41,11 @@ impl System for NormalTable<'_> {
     ghost lawful = { λ m. table_keeps m.table.bytes.now m.table.pairs m.table.formed m.table.ended };
 
     fn start(&self) -> u16 {
-        self.start()
+        Table::start(self)
     }
 
     fn step(&self, at: u16, k: usize) -> Option<(u8, u16)> {
-        self.step(at, k).map(answer)
+        Table::step(self, at, k).map(answer)
     }
 }
 
