@@ -1,8 +1,11 @@
 -- The lemmas that the laws of the systems here cite: what each keeps. A table's lists, read as steps of a system, keep what
 -- the table keeps, since each entry is the reading of one of its steps. Assumes nothing.
-use Rattle.std.proofs.Common.{◌≡◌, ℕ, zero, suc, ◌<◌, ◌≤◌, List, [], ◌∷◌, map, length, Some, sym, refl, ap, ◌∙◌, subst, arith, rules}
+use Rattle.std.proofs.Common.{◌≡◌, ℕ, zero, suc, ◌<◌, ◌≤◌, List, [], ◌∷◌, map, length, Some, sym, refl, ap, ◌∙◌, subst, ⊎_elim, arith, rules}
 use Rattle.std.specs.List.{slice_get}
-use Rattle.std.proofs.lemmas.List.{length-map}
+use Rattle.std.proofs.lemmas.List.{length-map, nil_from_length}
+use Rattle.std.proofs.lemmas.Bool.{cases_lt}
+use mathlib.Core.Logic.{∥∥₁_elim}
+use std.HLevel.{⊥_prop}
 use Rattle.fault.specs.First.{Below}
 use Rattle.fault.specs.Judged.{Everywhere}
 use Rattle.table.specs.declared.step.Step.{Step}
@@ -11,7 +14,7 @@ use Rattle.table.specs.Rules.{Formed, Ended, pair_rule, normal_rule}
 use Rattle.table.specs.Steps.{Lawful as TableLawful, Lone as TableLone}
 use Rattle.table.proofs.Entries.{some_same, some_not_none, lawful}
 use Rattle.table.proofs.Following.{lone_of}
-use Rattle.systems.specs.Meaning.{Lawful, Lone}
+use Rattle.systems.specs.Meaning.{Lts, Lawful, Lone}
 use Rattle.systems.specs.Tables.{taken, table_lts}
 use Rattle.systems.specs.Registers.{Apart, register}
 
@@ -61,3 +64,12 @@ table_keeps b pairs formed ended = table_lawful b (lawful b pairs formed ended)
 
 pub table_keeps_lone : (b : List ℕ) → ∥ Everywhere (normal_rule b) ∥₁ → Lone (table_lts b)
 table_keeps_lone b h = table_lone b (lone_of b h)
+
+-- what a type shows of a system, where it keeps no more than that there is a proof
+pub lawful_from : {S : Type 0} (m : Lts S) → ∥ Lawful m ∥₁ → Lawful m
+lawful_from {S} m h =
+    record {
+      few = λ s. ⊎_elim (λ l. absurd (∥∥₁_elim h ⊥_prop (λ w. let f = w.few s in omega arith))) (λ l. l) (cases_lt 66048 (length (m.steps s)));
+      low = λ s t k e at. ⊎_elim (λ l. l) (λ l. absurd (∥∥₁_elim h ⊥_prop (λ w. let f = w.low s t k e at in omega arith))) (cases_lt e 64);
+      ended = λ s t k at. nil_from_length (m.steps t) (⊎_elim (λ l. absurd (∥∥₁_elim h ⊥_prop (λ w. let f = ap length (w.ended s t k at) in omega arith))) (λ l. omega arith) (cases_lt 0 (length (m.steps t))));
+    }
