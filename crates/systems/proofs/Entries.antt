@@ -1,17 +1,14 @@
 -- Entries of lists by place: two entries at one place are equal, and an event's entry is the one that `follow` finds.
-use Rattle.std.proofs.Common.{◌≡◌, ℕ, zero, suc, ◌<◌, ◌≤◌, eqb, List, [], ◌∷◌, map, length, get_or, Some, None, sym, refl, ap, ◌∙◌, ⊎_elim, arith}
+use Rattle.std.proofs.Common.{◌≡◌, ℕ, zero, suc, ◌<◌, eqb, List, [], ◌∷◌, map, length, get_or, Some, sym, refl, ap, ◌∙◌, ⊎_elim, arith}
 use Rattle.std.specs.List.{slice_get}
-use Rattle.std.proofs.lemmas.Option.{slice_get_read, slice_get-get_or}
-use Rattle.std.proofs.lemmas.Bool.{cases_lt, cases_Bool, cond-true, cond-false, eqb-true, eq-eqb}
-pub use Rattle.table.proofs.Entries.{some_same, some_not_none, nth_within}
+use Rattle.std.proofs.lemmas.Option.{slice_get_read}
+use Rattle.std.proofs.lemmas.Bool.{cases_Bool, cond-true, cond-false, eqb-true, eq-eqb}
+pub use Rattle.table.proofs.Entries.{some_same, some_not_none, nth_within, past_none, drop_entry, drop_none, entry_next, entry_end}
+pub use Rattle.systems.specs.Keeping.{map_entry}
 use Rattle.systems.specs.Meaning.{Lts, Listed, Steps, Lawful, follow, Lone}
 
 pub pair_same : {D S : Type 0} (p : D × S) (d : D) (s : S) → p.0 ≡ d → p.1 ≡ s → p ≡ (d, s)
 pair_same {D} {S} p d s a b = ap (λ (x : D). (x, p.1)) a ∙ ap (λ (y : S). (d, y)) b
-
-pub past_none : {X : Type 0} (xs : List X) (k : ℕ) → slice_get xs k ≡ None → length xs ≤ k
-past_none [] k e = omega arith
-past_none (x ∷ xs) k e = ⊎_elim (λ h. absurd (some_not_none (get_or (x ∷ xs) k x) (sym (slice_get-get_or (x ∷ xs) k x h) ∙ e))) (λ h. h) (cases_lt k (length (x ∷ xs)))
 
 -- what the step question answers: its place is within the list, which is short, and its event is below 64
 module _ {S : Type 0} (m : Lts S) (s : S) (k : ℕ) (x : ℕ × S) (at : Some x ≡ slice_get (m.steps s) k) where
@@ -32,11 +29,6 @@ pub nth_map : {X Y : Type 0} (g : X → Y) (xs : List X) (k : ℕ) (x : X) → s
 nth_map g [] k x e = absurd (some_not_none x (sym e))
 nth_map g (y ∷ xs) zero x e = ap (λ z. Some (g z)) (some_same y x e)
 nth_map g (y ∷ xs) (suc k) x e = nth_map g xs k x e
-
-pub map_entry : {X Y : Type 0} (g : X → Y) (xs : List X) (k : ℕ) (z : Y) → slice_get (map g xs) k ≡ Some z → (x : X) × (slice_get xs k ≡ Some x) × (z ≡ g x)
-map_entry g [] k z e = absurd (some_not_none z (sym e))
-map_entry g (x ∷ xs) zero z e = (x, refl, sym (some_same (g x) z e))
-map_entry g (x ∷ xs) (suc k) z e = map_entry g xs k z e
 
 -- the state that `follow` finds stands in the list with the event
 pub follow_listed : {S : Type 0} (xs : List (ℕ × S)) (e : ℕ) (t : S) → follow xs e ≡ Some t → Listed xs (e, t)

@@ -4,3 +4,4 @@ pub mod Moves
 pub mod Registers
 pub mod Faults
 pub mod Tables
+pub mod Keeping

@@ -3,10 +3,10 @@ ghost use Rattle.std.specs.Prelude.{◌≡◌, Decides, MatchResult};
 ghost use Rattle.fault.specs.Judged.{fault};
 ghost use Rattle.fault.specs.declared.refusal.Refusal.TheVariants.{SystemEvents};
 ghost use Rattle.systems.specs.Registers.{Apart, Visible, register};
+ghost use Rattle.systems.specs.Keeping.{register_keeps, register_keeps_lone};
 
 use crate::system::{Normal, System};
 use fault::{Fault, Refusal};
-use first_seen::Same;
 
 const START: u16 = 0;
 
@@ -31,16 +31,10 @@ impl Register {
         ensures { MatchResult result (λ m. Apart up down iszero × (register m.limit m.up m.down m.iszero ≡ register limit up down iszero)) (λ f. (f ≡ fault SystemEvents 0) × (Apart up down iszero → ⊥)) }
     {
         if !visible(up) || !visible(down) || !visible(iszero) {
-            return Err(Fault {
-                refusal: Refusal::SystemEvents,
-                place: 0,
-            });
+            return Err(Refusal::SystemEvents.into());
         }
         if up == down || up == iszero || down == iszero {
-            return Err(Fault {
-                refusal: Refusal::SystemEvents,
-                place: 0,
-            });
+            return Err(Refusal::SystemEvents.into());
         }
         Ok(Register {
             limit,
@@ -56,12 +50,12 @@ impl System for Register {
 
     ghost means = { λ m. register m.limit m.up m.down m.iszero };
 
+    ghost kind = { λ x y e. e };
+
+    ghost lawful = { λ m. register_keeps m.limit m.up m.down m.iszero m.apart };
+
     fn start(&self) -> u16 {
         START
-    }
-
-    fn same(a: &u16, b: &u16) -> bool {
-        a.same(b)
     }
 
     fn step(&self, at: u16, k: usize) -> Option<(u8, u16)> {
@@ -85,6 +79,8 @@ impl System for Register {
 }
 
 impl Normal for Register {
+    ghost lone = { λ m. register_keeps_lone m.limit m.up m.down m.iszero m.apart };
+
     fn after(&self, at: u16, event: u8) -> Option<u16> {
         if at > self.limit {
             return None;

@@ -1,20 +1,16 @@
 // Transition tables and normal tables as systems.
 ghost use Rattle.std.specs.Prelude.{◌≡◌, Decides};
-ghost use Rattle.std.specs.Option.{option_map};
 ghost use Rattle.systems.specs.Tables.{table_lts, taken};
+ghost use Rattle.systems.specs.Keeping.{table_keeps, table_keeps_lone};
 
 use crate::system::{Normal, System};
-use first_seen::Same;
 use table::{NormalTable, Step, Table};
 
 // A step of a table, as a system answers it.
-fn answer(step: Option<Step>) -> Option<(u8, u16)>
-    ensures { result ≡ option_map taken step }
+fn answer(step: Step) -> (u8, u16)
+    ensures { result ≡ taken step }
 {
-    match step {
-        Some(x) => Some((x.event, x.target)),
-        None => None,
-    }
+    (step.event, step.target)
 }
 
 impl System for Table<'_> {
@@ -22,18 +18,16 @@ impl System for Table<'_> {
 
     ghost means = { λ m. table_lts m.bytes.now };
 
+    ghost kind = { λ x y e. e };
+
+    ghost lawful = { λ m. table_keeps m.bytes.now m.pairs m.formed m.ended };
+
     fn start(&self) -> u16 {
         self.start()
     }
 
     fn step(&self, at: u16, k: usize) -> Option<(u8, u16)> {
-        answer(self.step(at, k))
-    }
-
-    fn same(a: &u16, b: &u16) -> bool
-        ensures { Decides result (a.now ≡ b.now) }
-    {
-        a.same(b)
+        self.step(at, k).map(answer)
     }
 }
 
@@ -42,22 +36,22 @@ impl System for NormalTable<'_> {
 
     ghost means = { λ m. table_lts m.table.bytes.now };
 
+    ghost kind = { λ x y e. e };
+
+    ghost lawful = { λ m. table_keeps m.table.bytes.now m.table.pairs m.table.formed m.table.ended };
+
     fn start(&self) -> u16 {
-        self.start()
+        Table::start(self)
     }
 
     fn step(&self, at: u16, k: usize) -> Option<(u8, u16)> {
-        answer(self.step(at, k))
-    }
-
-    fn same(a: &u16, b: &u16) -> bool
-        ensures { Decides result (a.now ≡ b.now) }
-    {
-        a.same(b)
+        Table::step(self, at, k).map(answer)
     }
 }
 
 impl Normal for NormalTable<'_> {
+    ghost lone = { λ m. table_keeps_lone m.table.bytes.now m.normal };
+
     fn after(&self, at: u16, event: u8) -> Option<u16> {
         self.after(at, event)
     }

@@ -1,12 +1,14 @@
 -- Entry k of a state's list is the step at the k-th place from the state's offset on, so what the check
 -- has found of every pair and every step holds of every entry.
-use Rattle.std.proofs.Common.{◌≡◌, ℕ, ◌+◌, ◌<◌, ◌≤◌, Bool, ltb, List, [], length, Some, None, Decides, sym, refl, ap, ◌∙◌, subst, ⊎_elim, arith}
+use Rattle.std.proofs.Common.{◌≡◌, ℕ, ◌+◌, ◌<◌, ◌≤◌, ltb, List, [], ◌∷◌, length, drop, Some, None, Option, sym, refl, ap, ◌∙◌, subst, ⊎_elim, arith}
 use Rattle.std.specs.List.{slice_get}
 use Rattle.std.proofs.lemmas.List.FromFn.{length-map-range_with_len, get_or-map-range_with_len}
 use Rattle.std.proofs.lemmas.List.{nil_from_length}
-use Rattle.std.proofs.lemmas.Option.{slice_get_past, slice_get-get_or}
+use Rattle.std.proofs.lemmas.Option.{slice_get_past, slice_get_within, slice_get_cases, slice_get_read, slice_get-get_or, get_or_from_slice_get}
+use Rattle.std.proofs.lemmas.List.{drop_more, drop_all}
+use Rattle.std.proofs.lemmas.Iterator.Consumers.{YieldsList-from_first, YieldsList-turn, YieldsList-end}
+use Rattle.std.specs.Iterator.{Yields, YieldsFirst}
 use Rattle.std.proofs.lemmas.Bool.{cases_lt, cases_order, cond-true, cond-false, lt-ltb, le-ltb}
-use Rattle.std.proofs.lemmas.Bool.Decides.{Decides-like}
 use Rattle.fault.specs.First.{Below}
 use Rattle.fault.specs.Judged.{Everywhere}
 use Rattle.table.specs.declared.step.Step.{Step}
@@ -22,7 +24,29 @@ pub some_not_none : {X : Type 0} (x : X) → Some x ≡ None → ⊥
 some_not_none x e = let z : ◌≡◌ {A = ℕ} 0 1 = cc in omega arith
 
 pub nth_within : {X : Type 0} (xs : List X) (k : ℕ) (x : X) → slice_get xs k ≡ Some x → k < length xs
-nth_within xs k x e = ⊎_elim (λ h. h) (λ h. absurd (some_not_none x (sym e ∙ slice_get_past xs k h))) (cases_lt k (length xs))
+nth_within xs k x e = slice_get_within xs k x e
+
+pub past_none : {X : Type 0} (xs : List X) (k : ℕ) → slice_get xs k ≡ None → length xs ≤ k
+past_none xs k e = ⊎_elim (λ l. absurd (some_not_none l.0 (sym l.2 ∙ e))) (λ l. l.0) (slice_get_cases xs k).1
+
+-- what is left from place k on begins with the entry there, and is nothing where there is none
+pub drop_entry : {X : Type 0} (xs : List X) (k : ℕ) (x : X) → slice_get xs k ≡ Some x → drop k xs ≡ x ∷ drop (k + 1) xs
+drop_entry xs k x at =
+    let h = nth_within xs k x at in
+    drop_more xs k x h ∙ ap (λ y. y ∷ drop (k + 1) xs) (get_or_from_slice_get xs k x x at)
+
+pub drop_none : {X : Type 0} (xs : List X) (k : ℕ) → slice_get xs k ≡ None → drop k xs ≡ []
+drop_none xs k e = drop_all k xs (past_none xs k e)
+
+-- in a loop over an iterator that shows what is left: the item is the entry after those that were yielded, and at the end all were
+module _ {Z X : Type 0} (rest : Z → List X) {z : Z} (xs : List X) (whole : rest z ≡ xs) (ys : List X) (t : Z) (passed : Yields (YieldsFirst rest) z ys t) (r : Option X) (u : Z) (next : YieldsFirst rest t r u) where
+  pub entry_next : (x : X) → r ≡ Some x → slice_get xs (length ys) ≡ Some x
+  entry_next x is =
+      let h = YieldsList-turn (YieldsList-from_first (λ y. y) rest xs whole) ys t passed r u x is next in
+      slice_get_read xs (length xs) (length ys) x refl h.0 h.1
+
+  pub entry_end : r ≡ None → length ys ≡ length xs
+  entry_end is = (YieldsList-end (YieldsList-from_first (λ y. y) rest xs whole) ys t passed r u is next).1
 
 module _ (b : List ℕ) (s : ℕ) where
   pub steps_in_lem : s < states b → steps_of b s ≡ steps_from b (offset b s) (size b s)
@@ -62,41 +86,38 @@ placed b s k x e =
     record { state = h; within = l; is = some_same (step b (offset b s + k)) x (sym (steps_at b s k h l) ∙ e) }
 
 -- no tau and no event twice, by entries and by places
-module _ (b : List ℕ) (s : ℕ) (h : s < states b) where
-  places : ℕ → ℕ
+module _ (b : List ℕ) (s : ℕ) where
+  abbrev pub places : ℕ → ℕ
   places k = event b (offset b s + k)
 
-  event_at : (k : ℕ) (x : Step) → slice_get (steps_of b s) k ≡ Some x → places k ≡ x.event
-  unfolding places
+  pub event_at : (k : ℕ) (x : Step) → slice_get (steps_of b s) k ≡ Some x → places k ≡ x.event
   event_at k x e = ap (λ (y : Step). y.event) (placed b s k x e).is
 
-  pub to_normal : Fresh (λ k. event b (offset b s + k)) (size b s) → NormalAt b s
-  unfolding places
-  to_normal f = (
-    λ k x e z. f.loud k (placed b s k x e).within (event_at k x e ∙ z),
+  pub normal_from : Fresh places (length (steps_of b s)) → NormalAt b s
+  normal_from f = (
+    λ k x e z. f.loud k (nth_within (steps_of b s) k x e) (event_at k x e ∙ z),
     λ j k x y p q z.
-        let same : event b (offset b s + j) ≡ event b (offset b s + k) = event_at j x p ∙ z ∙ sym (event_at k y q) in
+        let same : places j ≡ places k = event_at j x p ∙ z ∙ sym (event_at k y q) in
         ⊎_elim
         (λ i. i)
         (⊎_elim
-        (λ l. absurd (f.apart j k l (placed b s k y q).within same))
-        (λ l. absurd (f.apart k j l (placed b s j x p).within (sym same))))
+        (λ l. absurd (f.apart j k l (nth_within (steps_of b s) k y q) same))
+        (λ l. absurd (f.apart k j l (nth_within (steps_of b s) j x p) (sym same))))
         (cases_order j k),
   )
 
-  pub from_normal : NormalAt b s → Fresh (λ k. event b (offset b s + k)) (size b s)
-  from_normal n =
-      record {
-        loud = λ k l z. n.0 k (step b (offset b s + k)) (steps_at b s k h l) z;
-        apart = λ j k l i z.
-            let e : j ≡ k = n.1 j k (step b (offset b s + j)) (step b (offset b s + k)) (steps_at b s j h (omega arith)) (steps_at b s k h i) z in
-            omega arith;
-      }
+  module _ (h : s < states b) where
+    pub to_normal : Fresh places (size b s) → NormalAt b s
+    to_normal f = normal_from (subst (Fresh places) (sym (steps_length b s h)) f)
 
-  pub decides_normal : (r : Bool) (from count : ℕ) → from ≡ offset b s → count ≡ size b s → Decides r (Fresh (λ k. event b (from + k)) count) → Decides r (NormalAt b s)
-  decides_normal r from count p q d =
-      let D : ℕ → ℕ → Type 0 = λ o n. Decides r (Fresh (λ k. event b (o + k)) n) in
-      Decides-like r to_normal from_normal (subst (λ (n : ℕ). D (offset b s) n) q (subst (λ (o : ℕ). D o count) p d))
+    pub from_normal : NormalAt b s → Fresh places (size b s)
+    from_normal n =
+        record {
+          loud = λ k l z. n.0 k (step b (offset b s + k)) (steps_at b s k h l) z;
+          apart = λ j k l i z.
+              let e : j ≡ k = n.1 j k (step b (offset b s + j)) (step b (offset b s + k)) (steps_at b s j h (omega arith)) (steps_at b s k h i) z in
+              omega arith;
+        }
 
 -- what the check of pairs and steps gives of every list
 module _ (b : List ℕ) (pairs : Everywhere (pair_rule b)) (formed : Below (Formed b) (all_steps b)) (ends : Below (Ended b) (all_steps b)) where

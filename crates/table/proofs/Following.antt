@@ -1,45 +1,28 @@
--- The first entry with an event is found by going on while the entry has another event; what is left
--- of the list then leads where the whole does.
-use Rattle.std.proofs.Common.{◌≡◌, ℕ, zero, suc, ◌+◌, ◌≤◌, Bool, true, false, cond, eqb, List, [], ◌∷◌, length, get_or, drop, Some, None, Option, sym, refl, ap, ◌∙◌, subst, ⊎_elim, arith}
+-- The first entry with an event says where it leads, and in a list with no event twice it is the only one.
+use Rattle.std.proofs.Common.{◌≡◌, ℕ, zero, suc, Bool, true, false, cond, eqb, List, [], ◌∷◌, find, option_map, Some, None, Option, sym, refl, ap, ◌∙◌, subst, arith}
 use mathlib.Core.Logic.{∥∥₁_elim}
 use std.HLevel.{⊥_prop}
 use base.Stored.{Coded-set, coded_ℕ}
 use Rattle.std.specs.List.{slice_get}
-use Rattle.std.proofs.lemmas.List.{drop_more, drop_all}
-use Rattle.std.proofs.lemmas.Option.{slice_get-get_or}
-use Rattle.std.proofs.lemmas.Bool.{cases_lt, cond-true, cond-false, eq-eqb, ne_eqb, eqb-true, eqb-false}
+use Rattle.std.proofs.lemmas.Bool.{eqb-true, eqb-false}
 use Rattle.fault.specs.Judged.{Everywhere}
 use Rattle.table.specs.declared.step.Step.{Step}
 use Rattle.table.specs.Rules.{normal_rule}
 use Rattle.table.specs.Steps.{NoneTwice, Lone, follow, Leads}
-use Rattle.table.proofs.Entries.{some_same, some_not_none, nth_within, lone}
+use Rattle.table.proofs.Entries.{some_same, some_not_none, lone}
 
-pub past_none : {X : Type 0} (xs : List X) (k : ℕ) → slice_get xs k ≡ None → length xs ≤ k
-past_none [] k e = omega arith
-past_none (x ∷ xs) k e =
-    ⊎_elim
-    (λ h. absurd (some_not_none (get_or (x ∷ xs) k x) (sym (slice_get-get_or (x ∷ xs) k x h) ∙ e)))
-    (λ h. h)
-    (cases_lt k (length (x ∷ xs)))
+-- the first entry with the event, by its target
+follow_found : (xs : List Step) (e : ℕ) → option_map (λ (x : Step). x.target) (find (λ (x : Step). eqb x.event e) xs) ≡ follow xs e
+follow_found [] e = refl
+follow_found (x ∷ xs) e = at (eqb x.event e) (follow_found xs e)
+  where
+    at : (b : Bool) → option_map (λ (y : Step). y.target) (find (λ (y : Step). eqb y.event e) xs) ≡ follow xs e → option_map (λ (y : Step). y.target) (cond b (Some x) (find (λ (y : Step). eqb y.event e) xs)) ≡ cond b (Some x.target) (follow xs e)
+    at true i = refl
+    at false i = i
 
-module _ (xs : List Step) (e i : ℕ) (inv : follow (drop i xs) e ≡ follow xs e) where
-  module _ (x : Step) (at : Some x ≡ slice_get xs i) where
-    here_on : follow (drop i xs) e ≡ cond (eqb x.event e) (Some x.target) (follow (drop (i + 1) xs) e)
-    here_on =
-        let h = nth_within xs i x (sym at) in
-        let is : get_or xs i x ≡ x = some_same (get_or xs i x) x (sym (slice_get-get_or xs i x h) ∙ sym at) in
-        ap (λ ys. follow ys e) (drop_more xs i x h ∙ ap (λ y. y ∷ drop (i + 1) xs) is)
-
-    pub follow_here : x.event ≡ e → Some x.target ≡ follow xs e
-    follow_here t =
-        sym (cond-true (eqb x.event e) (Some x.target) (follow (drop (i + 1) xs) e) (eq-eqb x.event e t)) ∙ (sym here_on ∙ inv)
-
-    pub follow_on : (x.event ≡ e → ⊥) → follow (drop (i + 1) xs) e ≡ follow xs e
-    follow_on t =
-        sym (cond-false (eqb x.event e) (Some x.target) (follow (drop (i + 1) xs) e) (ne_eqb x.event e t)) ∙ (sym here_on ∙ inv)
-
-  pub follow_end : None ≡ slice_get xs i → None ≡ follow xs e
-  follow_end out = sym (ap (λ ys. follow ys e) (drop_all i xs (past_none xs i (sym out)))) ∙ inv
+pub follow_by : (xs : List Step) (e : ℕ) (r : Option ℕ) (o : Option Step) → r ≡ option_map (λ (x : Step). x.target) o → option_map (λ (x : Step). x) o ≡ find (λ (x : Step). eqb x.event e) xs → r ≡ follow xs e
+follow_by xs e r None led found = led ∙ (ap (option_map (λ (x : Step). x.target)) found ∙ follow_found xs e)
+follow_by xs e r (Some x) led found = led ∙ (ap (option_map (λ (y : Step). y.target)) found ∙ follow_found xs e)
 
 -- what a normal table's type says of every list
 pub lone_of : (b : List ℕ) → ∥ Everywhere (normal_rule b) ∥₁ → Lone b

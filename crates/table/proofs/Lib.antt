@@ -1,4 +1,3 @@
-pub mod Bitwise
 pub mod Meeting
 pub mod Entries
 pub mod Bare

@@ -1,26 +1,43 @@
 -- While the bits are exactly tau and the events met, an event whose bit is clear is new, and one whose
 -- bit is set is tau or was met before.
-use Rattle.std.proofs.Common.{◌≡◌, ℕ, ◌+◌, ◌^◌, ◌<◌, ◌≤◌, ◌⊎◌, sym, ap, ◌∙◌, inl, inr, ⊎_elim, arith}
+use Rattle.std.proofs.Common.{◌≡◌, ℕ, ◌+◌, ◌^◌, ◌<◌, ◌≤◌, ◌⊎◌, Bool, true, false, ◌||◌, sym, refl, ap, ◌∙◌, inl, inr, ⊎_elim, arith}
 use lib.Bits.{bit_or}
+use Rattle.std.proofs.Math.Bool.{or-true}
 use Rattle.std.proofs.lemmas.Bool.{cases_lt}
-use Rattle.table.specs.Met.{Fresh, bit}
-use Rattle.table.proofs.Bitwise.{set_only, set_kept, set_added, one_first, one_only}
+use Rattle.lent_bytes.specs.Bits.{bit}
+use Rattle.lent_bytes.proofs.Bitwise.{bit_or_lem, bit_power}
+use Rattle.table.specs.Met.{Fresh}
+
+either : (p q : Bool) → (p || q) ≡ true → (p ≡ true) ⊎ (q ≡ true)
+either true q e = inl refl
+either false q e = inr e
+
+-- a number with bit k set
+set_only : (w k j : ℕ) → bit (bit_or w (2 ^ k)) j ≡ true → (bit w j ≡ true) ⊎ (j ≡ k)
+set_only w k j e =
+    ⊎_elim (λ p. inl p) (λ q. inr (sym ((bit_power k j).0 q))) (either (bit w j) (bit (2 ^ k) j) (sym (bit_or_lem w (2 ^ k) j) ∙ e))
+
+set_kept : (w k j : ℕ) → bit w j ≡ true → bit (bit_or w (2 ^ k)) j ≡ true
+set_kept w k j e = bit_or_lem w (2 ^ k) j ∙ ap (λ b. b || bit (2 ^ k) j) e
+
+set_added : (w k : ℕ) → bit (bit_or w (2 ^ k)) k ≡ true
+set_added w k = bit_or_lem w (2 ^ k) k ∙ (ap (λ b. bit w k || b) ((bit_power k k).1 refl) ∙ or-true (bit w k))
 
 -- `met` holds tau and the events at the first n places, and no other
 pub record MeetsAll (at : ℕ → ℕ) (n met : ℕ) : Type 0 where
-  pub tau : bit met 0 ≡ 1
-  pub each : (k : ℕ) → k < n → bit met (at k) ≡ 1
-  pub only : (e : ℕ) → bit met e ≡ 1 → (e ≡ 0) ⊎ ((k : ℕ) × (k < n) × (at k ≡ e))
+  pub tau : bit met 0 ≡ true
+  pub each : (k : ℕ) → k < n → bit met (at k) ≡ true
+  pub only : (e : ℕ) → bit met e ≡ true → (e ≡ 0) ⊎ ((k : ℕ) × (k < n) × (at k ≡ e))
 
 pub met_none : (at : ℕ → ℕ) → MeetsAll at 0 1
-met_none at = record { tau = one_first; each = λ k h. absurd (omega arith); only = λ e h. inl (one_only e h) }
+met_none at = record { tau = (bit_power 0 0).1 refl; each = λ k h. absurd (omega arith); only = λ e h. inl (sym ((bit_power 0 e).0 h)) }
 
 pub fresh_none : (at : ℕ → ℕ) → Fresh at 0
 fresh_none at = record { loud = λ k h _. omega arith; apart = λ j k l h _. omega arith }
 
 module _ (at : ℕ → ℕ) (n met : ℕ) (m : MeetsAll at n met) where
   -- the next event was met
-  pub not_fresh : (e count : ℕ) → e ≡ at n → bit met e ≡ 1 → n < count → Fresh at count → ⊥
+  pub not_fresh : (e count : ℕ) → e ≡ at n → bit met e ≡ true → n < count → Fresh at count → ⊥
   not_fresh e count is h l f =
       ⊎_elim
       (λ z. f.loud n l (sym is ∙ z))
@@ -28,7 +45,7 @@ module _ (at : ℕ → ℕ) (n met : ℕ) (m : MeetsAll at n met) where
       (m.only e h)
 
   -- the next event is new
-  pub fresh_more : (e : ℕ) → e ≡ at n → (bit met e ≡ 1 → ⊥) → Fresh at n → Fresh at (n + 1)
+  pub fresh_more : (e : ℕ) → e ≡ at n → (bit met e ≡ true → ⊥) → Fresh at n → Fresh at (n + 1)
   fresh_more e is new f =
       let tau_not : at n ≡ 0 → ⊥ = λ z. new (ap (bit met) (is ∙ z) ∙ m.tau) in
       let not-before : (j : ℕ) → j < n → at j ≡ at n → ⊥ = λ j l q. new (ap (bit met) (is ∙ sym q) ∙ m.each j l) in
@@ -47,8 +64,8 @@ module _ (at : ℕ → ℕ) (n met : ℕ) (m : MeetsAll at n met) where
 
   pub met_more : (e next : ℕ) → e ≡ at n → next ≡ bit_or met (2 ^ e) → MeetsAll at (n + 1) next
   met_more e next is put =
-      let here : bit next e ≡ 1 = ap (λ (w : ℕ). bit w e) put ∙ set_added met e in
-      let kept : (j : ℕ) → bit met j ≡ 1 → bit next j ≡ 1 = λ j h. ap (λ (w : ℕ). bit w j) put ∙ set_kept met e j h in
+      let here : bit next e ≡ true = ap (λ (w : ℕ). bit w e) put ∙ set_added met e in
+      let kept : (j : ℕ) → bit met j ≡ true → bit next j ≡ true = λ j h. ap (λ (w : ℕ). bit w j) put ∙ set_kept met e j h in
       record {
         tau = kept 0 m.tau;
         each = λ k h.

@@ -1,5 +1,5 @@
 // The fields of a table's bytes, as they stand there; past the end stand zeros.
-ghost use Rattle.std.specs.Prelude.{◌≡◌, ◌^◌, ◌<◌};
+ghost use Rattle.std.specs.Prelude.{◌≡◌};
 ghost use Rattle.table.specs.Form.{states, start, all_steps, offset, size, floor, spare, step};
 
 use crate::step::Step;
@@ -23,36 +23,32 @@ pub(crate) fn steps_in(bytes: &[u8]) -> u32
     u32_at(bytes, 4)
 }
 
-pub(crate) fn offset_of(bytes: &[u8], state: usize) -> u32
-    requires { state < 2 ^ 32 }
+pub(crate) fn offset_of(bytes: &[u8], state: u32) -> u32
     ensures { result ≡ offset bytes.now state }
 {
-    u32_at(bytes, 8 + 8 * state)
+    u32_at(bytes, 8 + 8 * state as usize)
 }
 
-pub(crate) fn size_of(bytes: &[u8], state: usize) -> u32
-    requires { state < 2 ^ 32 }
+pub(crate) fn size_of(bytes: &[u8], state: u32) -> u32
     ensures { result ≡ size bytes.now state }
 {
-    u32_at(bytes, 12 + 8 * state)
+    u32_at(bytes, 12 + 8 * state as usize)
 }
 
 // Where the steps of a state may begin: at the end of the pair before.
-pub(crate) fn floor_of(bytes: &[u8], state: usize) -> u64
-    requires { state < 2 ^ 32 }
+pub(crate) fn floor_of(bytes: &[u8], state: u32) -> u64
     ensures { result ≡ floor bytes.now state }
 {
-    if state == 0 {
-        return 0;
+    match state.checked_sub(1) {
+        None => 0,
+        Some(before) => offset_of(bytes, before) as u64 + size_of(bytes, before) as u64,
     }
-    offset_of(bytes, state - 1) as u64 + size_of(bytes, state - 1) as u64
 }
 
-pub(crate) fn step_at(bytes: &[u8], place: usize) -> Step
-    requires { place < 2 ^ 34 }
+pub(crate) fn step_at(bytes: &[u8], place: u32) -> Step
     ensures { result ≡ step bytes.now place }
 {
-    let at = 8 + 8 * states_of(bytes) as usize + 4 * place;
+    let at = 8 + 8 * states_of(bytes) as usize + 4 * place as usize;
     Step {
         event: byte_at(bytes, at),
         target: u16_at(bytes, at + 2),
@@ -60,9 +56,11 @@ pub(crate) fn step_at(bytes: &[u8], place: usize) -> Step
 }
 
 // The byte of a step that is to be 0.
-pub(crate) fn spare_at(bytes: &[u8], place: usize) -> u8
-    requires { place < 2 ^ 34 }
+pub(crate) fn spare_at(bytes: &[u8], place: u32) -> u8
     ensures { result ≡ spare bytes.now place }
 {
-    byte_at(bytes, 8 + 8 * states_of(bytes) as usize + 4 * place + 1)
+    byte_at(
+        bytes,
+        8 + 8 * states_of(bytes) as usize + 4 * place as usize + 1,
+    )
 }

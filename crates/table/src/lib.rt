@@ -3,12 +3,14 @@
 
 pub mod checking;
 mod fields;
+pub mod list;
 pub mod normal;
 pub mod read;
 pub mod step;
 pub mod view;
 
 pub use checking::check;
+pub use list::StepsOf;
 pub use normal::check_normal;
 pub use step::Step;
 pub use view::{NormalTable, Table};

@@ -1,6 +1,6 @@
-use Rattle.std.proofs.Common.{◌≡◌, ℕ, max, subst, arith}
+use Rattle.std.proofs.Common.{rules, max, arith}
 use Rattle.fault.specs.declared.refusal.Refusal.TheVariants.{TablePair}
-use Rattle.fault.specs.Judged.{Passes, rule}
+use Rattle.fault.proofs.Trying.{passes}
 use Rattle.table.specs.Form.{states}
 use Rattle.table.specs.Rules.{PairOk}
 use Rattle.table.proofs.checking.check_pairs.Goals as goal
@@ -8,5 +8,4 @@ use Rattle.table.proofs.checking.check_pairs.Goals as goal
 pub returns : goal.returns
 returns c =
     let b = c.args.bytes.now in
-    let e : c.max-places.result ≡ max (states b) 1 = omega (arith, c.max-places.ensures) in
-    subst (λ (n : ℕ). Passes (rule TablePair n (PairOk b)) c.first.result) e c.first.ensures
+    passes (PairOk b) TablePair (max (states b) 1) _ c.first.result c.first.ensures (omega (arith, c.max-places.ensures)) (λ k r h s. search rules)

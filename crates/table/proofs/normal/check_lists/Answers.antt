@@ -1,9 +1,11 @@
-use Rattle.std.proofs.Common.{ℕ, subst}
+use Rattle.std.proofs.Common.{rules}
 use Rattle.fault.specs.declared.refusal.Refusal.TheVariants.{TableNormal}
-use Rattle.fault.specs.Judged.{Passes, rule}
+use Rattle.fault.proofs.Trying.{passes}
+use Rattle.table.specs.Form.{states}
 use Rattle.table.specs.Rules.{NormalAt}
 use Rattle.table.proofs.normal.check_lists.Goals as goal
 
 pub returns : goal.returns
 returns c =
-    subst (λ (n : ℕ). Passes (rule TableNormal n (NormalAt c.args.bytes.now)) c.first.result) c.states_of-places.ensures c.first.ensures
+    let b = c.args.table.now.bytes.now in
+    passes (NormalAt b) TableNormal (states b) _ c.first.result c.first.ensures c.states-places.ensures (λ k r h s. search rules)

@@ -21,8 +21,7 @@ returns c =
     let t = c.args.self.now in
     let here : c.args.state < states t.bytes.now = omega (arith, c.states_of.ensures) in
     let within : c.args.k < size t.bytes.now c.args.state = omega (arith, c.size_of-size.ensures) in
-    let is : c.step_at.result ≡ step t.bytes.now (offset t.bytes.now c.args.state + c.args.k) =
-    c.step_at.ensures ∙ ap (λ (o : ℕ). step t.bytes.now (o + c.args.k)) c.offset_of-from.ensures in
+    let is : c.step_at.result ≡ step t.bytes.now (offset t.bytes.now c.args.state + c.args.k) = c.step_at.ensures ∙ ap (λ (o : ℕ). step t.bytes.now (o + c.args.k)) c.offset_of-from.ensures in
     record {
       entry = ap Some is ∙ sym (steps_at t.bytes.now c.args.state c.args.k here within);
       lawful = lawful t.bytes.now t.pairs t.formed t.ended;
