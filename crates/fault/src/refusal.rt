@@ -99,14 +99,31 @@ impl Refusal {
     pub fn layer(self) -> u8
         ensures { result ≡ layer self }
     {
-        match self.number() {
-            0..=8 => 1,
-            9 => 2,
-            10 | 11 => 3,
-            12..=18 => 4,
-            19..=23 => 5,
-            24..=26 => 6,
-            _ => 7,
+        match self {
+            Refusal::FileLength
+            | Refusal::FileHead
+            | Refusal::FilePair
+            | Refusal::FileMask
+            | Refusal::FileRow
+            | Refusal::FileRepeat
+            | Refusal::FileHeight
+            | Refusal::FileDefinition => 1,
+            Refusal::ModelOpen => 2,
+            Refusal::ProcessRow | Refusal::ProcessRoom => 3,
+            Refusal::TableLength
+            | Refusal::TablePair
+            | Refusal::TableStep
+            | Refusal::TableNormal
+            | Refusal::NormaliseStates
+            | Refusal::NormaliseRoom
+            | Refusal::SystemEvents => 4,
+            Refusal::SearchRows
+            | Refusal::SearchBudget
+            | Refusal::SearchLent
+            | Refusal::SearchFull
+            | Refusal::TraceBuffer => 5,
+            Refusal::AuditStart | Refusal::AuditEvent | Refusal::AuditPair => 6,
+            Refusal::ScriptLine => 7,
         }
     }
 }
