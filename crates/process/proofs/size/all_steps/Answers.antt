@@ -1,5 +1,5 @@
 use Rattle.std.proofs.Common.{◌+◌, sym, ap, ◌∙◌, arith}
-use Rattle.process.proofs.Sizing.{state_known, steps_more, steps_all}
+use Rattle.process.proofs.Sizing.{state_known, state_count, steps_more, steps_all}
 use Rattle.process.proofs.size.all_steps.Goals as goal
 
 pub known-all-requires : goal.known-all-requires
@@ -9,7 +9,7 @@ known-all-requires c =
     let x = c.loop-i.invariant in
     let a = x.1 in
     let q = state_known _ c.args.start c.args.rows.now c.args.work.now c.args.n c.requires c.loop-i.i c.index-r.result.now t c.index-r.ensures in
-    record { row = q.2; done = q.0 }
+    record { row = q.3; done = (q.0, q.1) }
 
 pub overflow_add-all : goal.overflow_add-all
 overflow_add-all c =
@@ -18,8 +18,7 @@ overflow_add-all c =
     let x = c.loop-i.invariant in
     let a = x.1 in
     let q = state_known _ c.args.start c.args.rows.now c.args.work.now c.args.n c.requires c.loop-i.i c.index-r.result.now t c.index-r.ensures in
-    let k = c.known-all.ensures in
-    let m = q.1 in
+    let k = state_count _ c.args.start c.args.rows.now c.args.work.now c.args.n c.requires c.loop-i.i c.index-r.result.now c.known-all.result t c.index-r.ensures c.known-all.ensures in
     omega arith
 
 pub loop-i-preserved : goal.loop-i-preserved
@@ -30,7 +29,7 @@ loop-i-preserved c =
     let a = x.1 in
     let q = state_known _ c.args.start c.args.rows.now c.args.work.now c.args.n c.requires c.loop-i.i c.index-r.result.now t c.index-r.ensures in
     let k = c.known-all.ensures in
-    let m = q.1 in
+    let m = state_count _ c.args.start c.args.rows.now c.args.work.now c.args.n c.requires c.loop-i.i c.index-r.result.now c.known-all.result t c.index-r.ensures k in
     let s = steps_more _ c.args.start c.args.rows.now c.args.work.now c.args.n c.requires c.loop-i.i c.index-r.result.now c.known-all.result t c.index-r.ensures k in
     (ap (λ z. z + c.known-all.result) x.0 ∙ sym s, omega arith)
 
