@@ -1,4 +1,4 @@
-use Rattle.std.proofs.Common.{ℕ, ◌<◌, length, sym, subst}
+use Rattle.std.proofs.Common.{subst}
 use Rattle.model.specs.File.{process}
 use Rattle.model.specs.Models.{settled_file}
 use Rattle.model.specs.declared.drafted.Settled.{Settled}
