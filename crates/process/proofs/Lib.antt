@@ -1,3 +1,4 @@
+pub mod Lending
 pub mod Stored
 pub mod Outs
 pub mod Falls

@@ -4,6 +4,8 @@ pub mod Counting
 pub mod Going
 pub mod Slots
 pub mod Answered
+pub mod Once
+pub mod Lent
 pub mod Interned
 pub mod Noted
 pub mod Loaded

@@ -8,9 +8,11 @@ mod load;
 mod order;
 pub mod rule;
 mod size;
+
 pub mod slots;
 pub mod step;
 mod steps;
+pub mod term_rows;
 pub mod work;
 
 pub use list::list_steps;

@@ -3,24 +3,38 @@ ghost use Rattle.std.specs.Prelude.{◌≡◌, ℕ, ◌<◌, ◌≤◌, min, len
 ghost use Rattle.model.specs.File.{rows as rows_in, process};
 ghost use Rattle.model.specs.Models.{settled_file};
 ghost use Rattle.process.specs.Listed.{ListedAt, StepsListed};
-ghost use Rattle.process.specs.Loaded.{WantsIn};
+ghost use Rattle.process.specs.Loaded.{Loading, WantsIn};
 
-use crate::load::begin;
 use crate::slots::NoRoom;
-use crate::steps::{known, steps};
+use crate::term_rows::TermRows;
 use crate::work::Workspace;
 use fault::{Fault, Refusal};
 use model::{Row, Settled};
 
-// How many steps row r has; they stand in its slot then.
+impl TermRows<'_> {
+    ghost use Rattle.process.specs.Lent.{Lent};
+
+    // How many steps row r of the model has; they stand in its slot then.
+    fn list(&mut self, r: u16) -> Result<usize, NoRoom>
+        requires none { Loading (settled_file self.old.model.now) 0 self.old.rows.now self.old.work.now }
+        requires row { r < rows_in (settled_file self.old.model.now) }
+        ensures lent { Lent self.old self.new }
+        ensures listed { MatchResult result (ListedAt (settled_file self.old.model.now) self.new.rows.now self.new.work.now r) (λ _. (room : ℕ) → WantsIn (settled_file self.old.model.now) (process (settled_file self.old.model.now) r) (length self.old.rows.now) room) }
+    {
+        self.begin()?;
+        self.steps(r)?;
+        Ok(self.work.known(r).unwrap_or(0))
+    }
+}
+
+// The same over lent rows, as many as there are slots at most.
 fn listed(rows: &mut [Row], work: &mut Workspace, model: &Settled, r: u16) -> Result<usize, NoRoom>
     requires size { length rows.old ≤ vec_len work.old.lens }
     requires row { r < rows_in (settled_file model.now) }
     ensures { MatchResult result (ListedAt (settled_file model.now) rows.new work.new r) (λ _. (room : ℕ) → WantsIn (settled_file model.now) (process (settled_file model.now) r) (length rows.old) room) }
 {
-    begin(rows, work, model)?;
-    steps(rows, work, model, r)?;
-    Ok(known(work, r))
+    let mut terms = TermRows::over(rows, work, model);
+    terms.list(r)
 }
 
 // The steps of a row of the model, in its slot, over term rows that begin with the model's: how many there are. As

@@ -7,39 +7,31 @@ ghost use Rattle.process.specs.Loaded.{WantsIn};
 ghost use Rattle.process.specs.Ordered.{order_in, steps_in};
 
 use crate::slots::NoRoom;
-use crate::steps::known;
-use crate::work::Workspace;
-use model::{Row, Settled};
+use crate::term_rows::TermRows;
 
-// How many steps the states have together.
-fn all_steps(rows: &[Row], work: &Workspace, model: &Settled, start: u16, n: usize) -> usize
-    requires { Searching (settled_file model.now) start rows.now work.now n n }
-    ensures value { result ≡ steps_in work.now (order_in work.now n) }
-    ensures few { result ≤ 256 * n }
-{
-    let mut all = 0;
-    for i in 0..n {
-        let r = work.order[i];
-        all += known(work, r);
+impl TermRows<'_> {
+    // How many steps the states have together.
+    fn all_steps(&self, start: u16, n: usize) -> usize
+        requires { Searching (settled_file self.now.model.now) start self.now.rows.now self.now.work.now n n }
+        ensures value { result ≡ steps_in self.now.work.now (order_in self.now.work.now n) }
+        ensures few { result ≤ 256 * n }
+    {
+        let mut all = 0;
+        for r in &self.work.order[0..n] {
+            all += self.work.known(*r).unwrap_or(0);
+        }
+        all
     }
-    all
-}
 
-// The bytes of the table: 8, then 8 for each state and 4 for each step. Refused when they pass the room.
-pub(crate) fn table_size(
-    rows: &[Row],
-    work: &Workspace,
-    model: &Settled,
-    start: u16,
-    n: usize,
-    room: usize,
-) -> Result<usize, NoRoom>
-    requires { Searching (settled_file model.now) start rows.now work.now n n }
-    ensures { MatchResult result (λ s. (s ≡ 8 + 8 * n + 4 * steps_in work.now (order_in work.now n)) × (s ≤ room)) (λ _. (cap : ℕ) → WantsIn (settled_file model.now) (process (settled_file model.now) start) cap room) }
-{
-    let size = 8 + 8 * n + 4 * all_steps(rows, work, model, start, n);
-    if size > room {
-        return Err(NoRoom);
+    // The bytes of the table: 8, then 8 for each state and 4 for each step. Refused when they pass the room.
+    pub(crate) fn table_size(&self, start: u16, n: usize, room: usize) -> Result<usize, NoRoom>
+        requires { Searching (settled_file self.now.model.now) start self.now.rows.now self.now.work.now n n }
+        ensures { MatchResult result (λ s. (s ≡ 8 + 8 * n + 4 * steps_in self.now.work.now (order_in self.now.work.now n)) × (s ≤ room)) (λ _. (cap : ℕ) → WantsIn (settled_file self.now.model.now) (process (settled_file self.now.model.now) start) cap room) }
+    {
+        let size = 8 + 8 * n + 4 * self.all_steps(start, n);
+        if size > room {
+            return Err(NoRoom);
+        }
+        Ok(size)
     }
-    Ok(size)
 }

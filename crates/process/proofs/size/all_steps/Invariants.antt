@@ -1,6 +1,0 @@
-use Rattle.std.proofs.Common.{◌≡◌, ◌*◌, ◌≤◌, take}
-use Rattle.process.specs.Ordered.{order_in, steps_in}
-use Rattle.process.proofs.size.all_steps.Given as goal
-
-abbrev pub invariant-loop-i : goal.invariant-loop-i
-invariant-loop-i l = (l.all ≡ steps_in l.work (take l.i (order_in l.work l.n))) × (l.all ≤ 256 * l.i)
