@@ -1,15 +1,14 @@
 -- The steps of a row of a model as text. Assumes nothing.
 use Rattle.std.specs.Prelude.{◌≡◌, ℕ, ◌<◌, ◌≤◌, List, ◌++◌, take, codes, decimal, slice_index_or}
 use Rattle.std.specs.List.{flat_map}
-use Rattle.fault.specs.Listing.{number}
-use Rattle.fault.specs.Words.{told}
 use Rattle.fault.specs.declared.refusal.Fault.{Fault}
 use Rattle.fault.specs.Judged.{fault}
 use Rattle.fault.specs.declared.refusal.Refusal.TheVariants.{ProcessRow, ProcessRoom}
 use Rattle.model.specs.declared.op.Row.{Row}
 use Rattle.model.specs.Rows.{blank}
 use Rattle.model.specs.File.{rows, process}
-use Rattle.model_text.specs.Text.{row_text_lem}
+use Rattle.model.specs.Words.{row_text_lem}
+use Rattle.model_text.specs.Text.{refusal_text_lem}
 use Rattle.process.specs.declared.step.Step.{Step}
 use Rattle.process.specs.Loaded.{WantsIn}
 use Rattle.process.specs.Rows.{Begun, shown_all}
@@ -22,9 +21,8 @@ step_text rs s =
     decimal s.event ++ (codes " -> R" ++ (decimal s.next ++ (codes " = " ++ (row_text_lem (slice_index_or rs s.next blank) ++ codes "\n"))))
 
 -- a row that is refused: number and place, then a line in words
-unfoldable pub refused_steps_text : Fault → List ℕ
-refused_steps_text f =
-    codes "REFUSED " ++ (decimal (number f.refusal) ++ (codes " " ++ (decimal f.place ++ (codes "\n" ++ (told f ++ codes "\n")))))
+abbrev pub refused_steps_text : Fault → List ℕ
+refused_steps_text f = refusal_text_lem (codes "REFUSED") f
 
 -- what is shown of a row: its process's steps, in order, over term rows that begin with the model's; or that there is no such
 -- row, or no room for it over the term rows

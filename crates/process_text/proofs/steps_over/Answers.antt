@@ -1,4 +1,4 @@
-use Rattle.std.proofs.Common.{arith}
+use Rattle.std.proofs.Common.{arith, rules}
 use Rattle.process_text.proofs.Showing.{listed_at, slot_known, shows}
 use Rattle.process_text.proofs.steps_over.Goals as goal
 
@@ -12,4 +12,4 @@ push_lines-requires c k h =
 pub returns-in_ok-push_lines-in-Ok : goal.returns-in_ok-push_lines-in-Ok
 returns-in_ok-push_lines-in-Ok c =
     let x = c.in-Ok.ensures in
-    shows _ _ _ _ c.list_steps.new.rows c.list_steps.new.work x _ _ c.in_ok-out-in-Ok.ensures.ok c.in_ok-push_lines-in-Ok.ensures
+    shows _ _ _ _ c.list_steps.new.rows c.list_steps.new.work x _ _ c.in_ok-out-in-Ok.ensures.ok (c.in_ok-push_lines-in-Ok.ensures.each ? (λ k s h p. search rules))
