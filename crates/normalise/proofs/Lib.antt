@@ -3,6 +3,7 @@ pub mod Closes
 pub mod Growth
 pub mod Explores
 pub mod Noting
+pub mod Visits
 pub mod Walks
 pub mod Pigeons
 pub mod Bytewise

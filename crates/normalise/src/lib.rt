@@ -5,6 +5,7 @@ pub mod closing;
 pub mod nodes;
 pub mod normal;
 pub mod puts;
+pub mod small;
 pub mod unit;
 pub mod writing;
 

@@ -39,12 +39,8 @@ fn bytes_of(
 }
 
 fn list(rt: &HostRuntime, table: &NormalTable, node: u16) -> io::Result<()> {
-    for k in 0..63usize {
-        if let Some(s) = table.step(node, k) {
-            let event = s.event;
-            let target = s.target;
-            print!(rt; "; {node} {event} {target}")?;
-        }
+    for Step { event, target } in (0..63).map_while(|k| table.step(node, k)) {
+        print!(rt; "; {node} {event} {target}")?;
     }
     Ok(())
 }
@@ -59,22 +55,8 @@ fn nodes(rt: &HostRuntime, bytes: &[u8]) -> io::Result<()> {
     Ok(())
 }
 
-fn blank(rows: &[StateSet]) -> bool {
-    for row in rows {
-        if row.words[0] != 0 || row.words[1] != 0 || row.words[2] != 0 || row.words[3] != 0 {
-            return false;
-        }
-    }
-    true
-}
-
 fn all(out: &[u8], value: u8) -> bool {
-    for byte in out {
-        if *byte != value {
-            return false;
-        }
-    }
-    true
+    out.iter().all(|&byte| byte == value)
 }
 
 // What a refusal leaves in a buffer of sevens.
@@ -107,7 +89,7 @@ fn tell(rt: &HostRuntime, name: &str, bytes: &[u8], sets: usize, room: usize) ->
             print!(rt; "{number} at {place}, {left}")?;
         }
     }
-    if blank(rows.as_slice()) {
+    if rows.as_slice().iter().all(|row| row.is_empty()) {
         println!(rt; "")
     } else {
         println!(rt; ", rows not blank")
