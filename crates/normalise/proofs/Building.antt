@@ -2,11 +2,9 @@
 use Rattle.std.proofs.Common.{◌≡◌, ℕ, ◌≤◌, min, List, length, take, Some, None, Option, sym, subst, inl, inr, arith}
 use Rattle.std.specs.List.{slice_get}
 use Rattle.std.proofs.lemmas.List.{length-take}
-use Rattle.table.specs.Steps.{Lawful as TableLawful}
-use Rattle.systems.specs.Meaning.{Steps}
+use Rattle.systems.specs.Meaning.{Steps, Lawful}
 use Rattle.systems.specs.Tables.{table_lts}
 use Rattle.systems.proofs.Entries.{some_not_none}
-use Rattle.systems.proofs.Tabling.{table_lawful}
 use Rattle.sets.specs.declared.state_set.StateSet.{StateSet}
 use Rattle.normalise.specs.Closure.{Rel}
 use Rattle.normalise.specs.Made.{TableMade, TableWritten, Filled, Built}
@@ -16,9 +14,8 @@ use Rattle.normalise.proofs.Finals.{KeptLaw, normal_of}
 use Rattle.normalise.proofs.Pigeons.{found_few}
 use Rattle.normalise.proofs.Whole.{not_large}
 
-pub law_of : (b : List ℕ) → TableLawful b → KeptLaw (Steps (table_lts b))
-law_of b l =
-    let m = table_lawful b l in
+pub law_of : (b : List ℕ) → Lawful (table_lts b) → KeptLaw (Steps (table_lts b))
+law_of b m =
     record {
       low = λ i e j s. m.low i j s.0 e s.1;
       ended = λ i j s e k t.

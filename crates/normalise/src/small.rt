@@ -12,7 +12,7 @@ const MOST: u16 = 256;
 
 // A table whose states a set can hold.
 #[derive(Clone, Copy)]
-pub struct Small<'a> {
+pub(crate) struct Small<'a> {
     pub(crate) table: Table<'a>,
     ghost few: { states table.bytes.now ≤ 256 },
 }
@@ -32,7 +32,7 @@ impl<'a> Small<'a> {
 
 // The nodes of a table, in the order in which they were found; their numbers fit a table's states.
 #[derive(Clone, Copy)]
-pub struct Nodes<'a> {
+pub(crate) struct Nodes<'a> {
     pub(crate) of: Small<'a>,
     pub(crate) sets: &'a [StateSet],
     ghost few: { length sets.now ≤ 65535 },

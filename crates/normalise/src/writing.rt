@@ -13,6 +13,8 @@ use first_seen::find;
 
 const LARGEST: usize = 1048576;
 
+// That the sets are all nodes stays a clause of these: a ghost field holds a fact that has one proof at most, and a
+// proof of this one tells by which traces its nodes are reached.
 impl Nodes<'_> {
     // The node that the event leads to from node n, or nothing.
     fn target(&self, n: usize, event: u8) -> Option<usize>
@@ -60,6 +62,7 @@ impl Nodes<'_> {
         ensures { AllWritten (Steps (table_lts self.now.of.table.bytes.now)) (start self.now.of.table.bytes.now) self.now.sets.now (length self.now.sets.now) (length out.old) out.new result }
     {
         let mut steps = 0;
+        // By numbers: a node's number is the place of its pair, and its list is asked by it.
         for n in 0..self.sets.len() {
             let count = self.write_list(n, steps, out)?;
             put_pair(out, 8 + 8 * n, steps as u32, count as u32);

@@ -39,7 +39,7 @@ fn bytes_of(
 }
 
 fn list(rt: &HostRuntime, table: &NormalTable, node: u16) -> io::Result<()> {
-    for Step { event, target } in (0..63).map_while(|k| table.step(node, k)) {
+    for Step { event, target } in table.steps(node) {
         print!(rt; "; {node} {event} {target}")?;
     }
     Ok(())

@@ -1,8 +1,8 @@
 use Rattle.std.proofs.Common.{◌≡◌, ℕ, List, length, Option, sym, ap, ◌∙◌, subst, inl, arith}
 use Rattle.table.specs.Form.{start}
-use Rattle.table.proofs.Entries.{lawful}
 use Rattle.systems.specs.Meaning.{Steps}
 use Rattle.systems.specs.Tables.{table_lts}
+use Rattle.systems.specs.Keeping.{table_keeps}
 use Rattle.sets.specs.declared.state_set.StateSet.{StateSet}
 use Rattle.normalise.specs.Made.{Built}
 use Rattle.normalise.specs.Nodes.{MoreThan}
@@ -31,7 +31,7 @@ returns c =
     let t = c.args.self.now.table in
     let size : length c.explore.new.nodes.rows.now ≡ length c.args.rows.now = c.explore.ensures.size ∙ ap (λ (x : List StateSet). length x) c.over-nodes.ensures.rows in
     built (Steps (table_lts c.args.self.now.table.bytes.now)) (start c.args.self.now.table.bytes.now) c.items-sets.result.now (length c.items-sets.result.now) (length c.args.rows.now) (length c.args.out.now) c.write.new.out c.write.result
-    (law_of c.args.self.now.table.bytes.now (lawful t.bytes.now t.pairs t.formed t.ended))
+    (law_of c.args.self.now.table.bytes.now (table_keeps t.bytes.now t.pairs t.formed t.ended))
     (explored_ok _ _ c.explore.new.nodes.rows.now c.items-sets.result.now c.explore.new.nodes.len c.explore.result
     c.in_ok-ok.ensures.variant c.explore.ensures.explored c.items-sets.ensures.items)
     (omega (arith, size, c.items-sets.ensures.len, c.explore.new.nodes.within))
