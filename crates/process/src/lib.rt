@@ -8,7 +8,6 @@ mod load;
 mod order;
 pub mod rule;
 mod size;
-
 pub mod slots;
 pub mod step;
 mod steps;

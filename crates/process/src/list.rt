@@ -54,11 +54,6 @@ pub fn list_steps(
         });
     }
     let cap = rows.len().min(work.lens.len());
-    match listed(&mut rows[0..cap], work, model, row as u16) {
-        Ok(n) => Ok(n),
-        Err(NoRoom) => Err(Fault {
-            refusal: Refusal::ProcessRoom,
-            place: 0,
-        }),
-    }
+    let n = listed(&mut rows[..cap], work, model, row as u16)?;
+    Ok(n)
 }
