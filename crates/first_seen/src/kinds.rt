@@ -1,4 +1,4 @@
-// Kinds of element that no other crate declares: a byte of a buffer is blank as 0; numbers are the
+// Kinds of element that no other crate declares: a byte of a buffer and a number are blank as 0; numbers are the
 // same when they are equal, and pairs when both parts are.
 ghost use Rattle.std.specs.Prelude.{◌&&◌, nat_eq};
 ghost use Rattle.std.proofs.Common.{rules};
@@ -12,6 +12,14 @@ impl Blank for u8 {
 
     fn blank() -> u8 {
         0
+    }
+}
+
+impl Blank for u16 {
+    ghost blank = { 0 };
+
+    fn blank() -> u16 {
+        u16::default()
     }
 }
 

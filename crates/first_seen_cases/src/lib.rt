@@ -1,8 +1,7 @@
-// Kinds of element for the first-seen list, a function that leaves its lent rows blank on every way
-// out, and the list run on both.
+// A function that leaves its lent rows blank on every way out, and the first-seen list run on numbers and on the
+// rows of a search.
 #![tactic(auto)]
 
 pub mod gather;
-pub mod kinds;
 #[cfg(test)]
 mod tests;

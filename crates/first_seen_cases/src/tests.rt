@@ -1,6 +1,6 @@
 use crate::gather::gather;
-use crate::kinds::Work;
 use first_seen::{FirstSeen, Full, Noted, Unfinished, find};
+use search::Work;
 
 fn row(design: u16, spec: u16, parent: u16) -> Work<u16, u16> {
     Work {
