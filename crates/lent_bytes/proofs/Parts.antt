@@ -1,5 +1,5 @@
 -- A number of several bytes is its first bytes, shifted, and the rest; past the end it is 0.
-use Rattle.std.proofs.Common.{◌≡◌, ℕ, zero, suc, ◌+◌, ◌-◌, ◌*◌, ◌^◌, ◌<◌, ◌≤◌, min, List, ◌++◌, length, get_or, take, drop, replicate, inl, inr, sym, refl, ap, ◌∙◌, ⊎_elim, add-zero, add_assoc, zero-add, arith}
+use Rattle.std.proofs.Common.{◌≡◌, ℕ, zero, suc, ◌+◌, ◌-◌, ◌*◌, ◌^◌, ◌<◌, ◌≤◌, min, List, ◌++◌, length, get_or, take, drop, replicate, sym, refl, ap, ◌∙◌, ⊎_elim, add-zero, add_assoc, zero-add, arith}
 use Rattle.std.proofs.lemmas.List.{get_or_past, get_or_append_left, get_or-append_right, get_or-take, get_or-drop, get_or-replicate, length-take, length-drop, length-append, length-replicate}
 use Rattle.std.proofs.lemmas.Bool.{cases_lt}
 use Rattle.lent_bytes.specs.Reads.{be, Window}
@@ -97,10 +97,10 @@ module _ (b : List ℕ) (i n m h : ℕ) (here w : List ℕ) (em : m ≡ min i (l
   windowed = (
     omega (arith, length-append w (drop h blank), long_w, length-drop h blank, length-replicate {A = ℕ} n 0),
     λ k l.
-    ⊎_elim
-    (λ y. get_or_append_left w (drop h blank) 0 k (rw long_w y) ∙ held k y)
-    (λ y.
-    let past : length b ≤ i + k = omega arith in
-    get_or-append_right w (drop h blank) h k 0 long_w y ∙ zeros (k - h) ∙ sym (get_or_past b (i + k) 0 past))
-    (cases_lt k h),
+        ⊎_elim
+        (λ y. get_or_append_left w (drop h blank) 0 k (rw long_w y) ∙ held k y)
+        (λ y.
+        let past : length b ≤ i + k = omega arith in
+        get_or-append_right w (drop h blank) h k 0 long_w y ∙ zeros (k - h) ∙ sym (get_or_past b (i + k) 0 past))
+        (cases_lt k h),
   )

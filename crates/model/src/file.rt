@@ -104,13 +104,19 @@ impl File<'_> {
     pub(crate) fn mask_at(&self, k: u32) -> u64
         ensures { result ≡ mask_at_lem self.now.bytes.now k }
     {
-        u64_at(self.bytes, self.offset(Section::Masks) as usize + 8 * k as usize)
+        u64_at(
+            self.bytes,
+            self.offset(Section::Masks) as usize + 8 * k as usize,
+        )
     }
 
     pub(crate) fn definition_at(&self, d: u32) -> u16
         ensures { result ≡ definition_at_lem self.now.bytes.now d }
     {
-        u16_at(self.bytes, self.offset(Section::Definitions) as usize + 2 * d as usize)
+        u16_at(
+            self.bytes,
+            self.offset(Section::Definitions) as usize + 2 * d as usize,
+        )
     }
 
     pub(crate) fn row_place(&self, i: u32) -> usize

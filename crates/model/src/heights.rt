@@ -19,8 +19,12 @@ pub(crate) fn check_heights(file: File) -> Result<(), Fault>
     for place in 0..file.rows() {
         let row = file.row_at(place as u32);
         let shape = row.op.shape();
-        let left = shape.left.part_or_default(byte_at(&heights, row.left as usize));
-        let right = shape.right.part_or_default(byte_at(&heights, row.right as usize));
+        let left = shape
+            .left
+            .part_or_default(byte_at(&heights, row.left as usize));
+        let right = shape
+            .right
+            .part_or_default(byte_at(&heights, row.right as usize));
         let high = left.max(right);
         if high >= 64 {
             return Err(Fault {

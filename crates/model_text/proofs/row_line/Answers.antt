@@ -1,4 +1,4 @@
-use Rattle.std.proofs.Common.{◌≡◌, ℕ, List, ◌++◌, IfOk, string_bytes, codes, decimal, sym, subst}
+use Rattle.std.proofs.Common.{◌≡◌, ℕ, List, ◌++◌, IfOk, string_bytes, codes, decimal, subst}
 use Rattle.model.specs.declared.op.Row.{Row}
 use Rattle.model.specs.File.{rows, row_at}
 use Rattle.model.specs.Words.{row_text_lem}

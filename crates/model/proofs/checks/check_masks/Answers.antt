@@ -1,7 +1,7 @@
-use Rattle.std.proofs.Common.{rules, refl}
+use Rattle.std.proofs.Common.{rules}
 use Rattle.fault.proofs.Trying.{passes}
 use Rattle.fault.specs.declared.refusal.Refusal.TheVariants.{FileMask}
-use Rattle.model.specs.File.{rows, masks, definitions}
+use Rattle.model.specs.File.{masks}
 use Rattle.model.specs.Rules.{MaskOk}
 use Rattle.model.proofs.checks.check_masks.Goals as goal
 

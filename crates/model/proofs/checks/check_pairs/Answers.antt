@@ -1,7 +1,6 @@
 use Rattle.std.proofs.Common.{rules, refl}
 use Rattle.fault.proofs.Trying.{passes}
 use Rattle.fault.specs.declared.refusal.Refusal.TheVariants.{FilePair}
-use Rattle.model.specs.File.{rows, masks, definitions}
 use Rattle.model.specs.Rules.{PairOk}
 use Rattle.model.proofs.checks.check_pairs.Goals as goal
 

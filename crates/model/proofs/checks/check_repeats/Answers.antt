@@ -1,7 +1,7 @@
-use Rattle.std.proofs.Common.{rules, refl}
+use Rattle.std.proofs.Common.{rules}
 use Rattle.fault.proofs.Trying.{passes}
 use Rattle.fault.specs.declared.refusal.Refusal.TheVariants.{FileRepeat}
-use Rattle.model.specs.File.{rows, masks, definitions}
+use Rattle.model.specs.File.{rows}
 use Rattle.model.specs.Rules.{RowNew}
 use Rattle.model.proofs.checks.check_repeats.Goals as goal
 

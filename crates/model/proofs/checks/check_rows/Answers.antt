@@ -1,7 +1,7 @@
-use Rattle.std.proofs.Common.{rules, refl}
+use Rattle.std.proofs.Common.{rules}
 use Rattle.fault.proofs.Trying.{passes}
 use Rattle.fault.specs.declared.refusal.Refusal.TheVariants.{FileRow}
-use Rattle.model.specs.File.{rows, masks, definitions}
+use Rattle.model.specs.File.{rows}
 use Rattle.model.specs.Rules.{RowOk}
 use Rattle.model.proofs.checks.check_rows.Goals as goal
 

@@ -1,6 +1,5 @@
 use Rattle.std.proofs.Common.{string_bytes}
 use Rattle.model_text.specs.Lines.{Appends}
-
 use Rattle.model_text.proofs.lines.push_lines.Given as goal
 
 abbrev pub invariant-loop-k : goal.invariant-loop-k

@@ -1,5 +1,5 @@
 -- A line's first number ends at the first space, so the two parts are the only numbers that it can have.
-use Rattle.std.proofs.Common.{◌≡◌, ℕ, ◌+◌, ◌<◌, List, ◌∷◌, ◌++◌, length, take, drop, sym, refl, ap, ◌∙◌, subst, arith}
+use Rattle.std.proofs.Common.{ℕ, ◌+◌, List, ◌∷◌, ◌++◌, take, drop, sym, refl, ap, ◌∙◌, subst}
 use Rattle.std.proofs.lemmas.List.{take_rest, take-append-drop, drop_more}
 use Rattle.script.specs.Lines.{Number}
 use Rattle.script.proofs.Splitting.{some_space, space_found, first_space, left_of_lem, right_of}
