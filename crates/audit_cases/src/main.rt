@@ -9,7 +9,7 @@ mod toggle;
 use audit::audit;
 use beside::{Beside, check_mask};
 use std::io;
-use systems::{Fault, Normal, NormalTable, Register, System, Table};
+use systems::{Fault, Normal, NormalTable, Register, System, Table, steps_of};
 use toggle::Toggle;
 
 // A counter of two states: event 2 leads up, event 3 down.
@@ -85,13 +85,8 @@ const MANY: [u8; 60] = [
 fn listing(rt: &HostRuntime) -> io::Result<()> {
     let many = Table::take_up(&MANY);
     let both = Beside::take_up(many, many, 4);
-    for k in 0..12 {
-        if let Some(taken) = both.step((0, 0), k) {
-            let event = taken.0;
-            let left = taken.1.0;
-            let right = taken.1.1;
-            println!(rt; "step {k}: {event} to {left} {right}")?;
-        }
+    for (k, (event, (left, right))) in (0..12u8).zip(steps_of(&both, (0, 0))) {
+        println!(rt; "step {k}: {event} to {left} {right}")?;
     }
     Ok(())
 }
@@ -99,10 +94,7 @@ fn listing(rt: &HostRuntime) -> io::Result<()> {
 fn made(register: Result<Register, Fault>) -> Result<(), Fault>
     ensures { is_ok result ≡ is_ok register }
 {
-    match register {
-        Ok(_) => Ok(()),
-        Err(fault) => Err(fault),
-    }
+    register.map(|_| ())
 }
 
 // Both sides of each limit on a register's events, and the least register.

@@ -1,7 +1,7 @@
 // A system of a tool maker's own: off is 0, on is 1, and any other number has no steps.
-ghost use Rattle.audit_cases.specs.Toggles.{toggle};
+ghost use Rattle.audit_cases.specs.Toggles.{toggle, toggle_keeps, toggle_keeps_lone};
 
-use systems::{Normal, Same, System};
+use systems::{Normal, System};
 
 #[derive(Clone, Copy)]
 pub struct Toggle;
@@ -11,34 +11,31 @@ impl System for Toggle {
 
     ghost means = { λ _. toggle };
 
+    ghost kind = { λ x y e. e };
+
+    ghost lawful = { λ _. toggle_keeps };
+
     fn start(&self) -> u16 {
         0
     }
 
     fn step(&self, at: u16, k: usize) -> Option<(u8, u16)> {
-        if k > 0 {
-            return None;
-        }
-        match at {
-            0 => Some((2, 1)),
-            1 => Some((3, 0)),
+        match (at, k) {
+            (0, 0) => Some((2, 1)),
+            (1, 0) => Some((3, 0)),
             _ => None,
         }
-    }
-
-    fn same(a: &u16, b: &u16) -> bool {
-        a.same(b)
     }
 }
 
 impl Normal for Toggle {
+    ghost lone = { λ _. toggle_keeps_lone };
+
     fn after(&self, at: u16, event: u8) -> Option<u16> {
-        if at == 0 && event == 2 {
-            return Some(1);
+        match (at, event) {
+            (0, 2) => Some(1),
+            (1, 3) => Some(0),
+            _ => None,
         }
-        if at == 1 && event == 3 {
-            return Some(0);
-        }
-        None
     }
 }

@@ -82,13 +82,13 @@ fn bytes_of(
     bytes.extend_from_slice(&u16::try_from(pairs.len()).unwrap_or(0).to_be_bytes())?;
     bytes.extend_from_slice(&start.to_be_bytes())?;
     bytes.extend_from_slice(&u32::try_from(steps.len()).unwrap_or(0).to_be_bytes())?;
-    for pair in pairs {
-        bytes.extend_from_slice(&pair.0.to_be_bytes())?;
-        bytes.extend_from_slice(&pair.1.to_be_bytes())?;
+    for (offset, size) in pairs {
+        bytes.extend_from_slice(&offset.to_be_bytes())?;
+        bytes.extend_from_slice(&size.to_be_bytes())?;
     }
-    for step in steps {
-        bytes.extend_from_slice(&[step.0, 0])?;
-        bytes.extend_from_slice(&step.1.to_be_bytes())?;
+    for (event, target) in steps {
+        bytes.extend_from_slice(&[*event, 0])?;
+        bytes.extend_from_slice(&target.to_be_bytes())?;
     }
     Ok(bytes)
 }
@@ -113,9 +113,9 @@ fn tell(rt: &HostRuntime, name: &str, bytes: &[u8]) -> io::Result<()> {
 }
 
 fn tell_samples(rt: &HostRuntime) -> io::Result<()> {
-    for sample in &SAMPLES {
-        let bytes = bytes_of(rt.alloc(), sample.1, sample.2, sample.3)?;
-        tell(rt, sample.0, &bytes)?;
+    for (name, start, pairs, steps) in &SAMPLES {
+        let bytes = bytes_of(rt.alloc(), *start, pairs, steps)?;
+        tell(rt, name, &bytes)?;
     }
     Ok(())
 }
@@ -129,15 +129,10 @@ fn spare_byte(rt: &HostRuntime) -> io::Result<()> {
 fn padded(rt: &HostRuntime, name: &str, len: usize, steps: u32) -> io::Result<()> {
     let mut bytes = bytes_of(rt.alloc(), 0, &[(0, 0)], &[])?;
     bytes.resize(len, 0)?;
-    let [a, b, c, d] = steps.to_be_bytes();
-    let all = bytes.as_mut_slice();
-    if all.len() >= 8 {
-        all[4] = a;
-        all[5] = b;
-        all[6] = c;
-        all[7] = d;
+    if bytes.len() >= 8 {
+        bytes[4..8].copy_from_slice(&steps.to_be_bytes());
     }
-    tell(rt, name, all)
+    tell(rt, name, &bytes)
 }
 
 fn lengths(rt: &HostRuntime) -> io::Result<()> {
@@ -184,17 +179,17 @@ fn reads(rt: &HostRuntime) -> io::Result<()> {
     let states = table.states();
     let start = table.start();
     println!(rt; "{states} states, start {start}")?;
-    entry(rt, table.step(0, 0))?;
-    entry(rt, table.step(0, 1))?;
-    entry(rt, table.step(0, 2))?;
+    for k in 0..3 {
+        entry(rt, table.step(0, k))?;
+    }
     entry(rt, table.step(1, 0))?;
     entry(rt, table.step(2, 0))?;
     let normal = NormalTable::take_up(&bytes);
     entry(rt, normal.step(0, 1))?;
-    led(rt, normal.after(0, 3))?;
-    led(rt, normal.after(1, 3))?;
-    led(rt, normal.after(1, 63))?;
-    led(rt, normal.after(2, 3))
+    for (state, event) in [(0, 3), (1, 3), (1, 63), (2, 3)] {
+        led(rt, normal.after(state, event))?;
+    }
+    Ok(())
 }
 
 fn refused(rt: &HostRuntime) -> io::Result<()> {

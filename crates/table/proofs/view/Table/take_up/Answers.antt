@@ -1,12 +1,8 @@
 use Rattle.std.proofs.Common.{lit<}
 use Rattle.table.specs.Rules.{table_rules}
 use Rattle.table.proofs.Bare.{bare_sized, bare_pairs, bare_formed, bare_ended}
-use Rattle.table.proofs.Taking.{exact_decides, taken_whole, taken_bare}
+use Rattle.table.proofs.Taking.{exact_decides, taken_bare}
 use Rattle.table.proofs.view.Table.take_up.Goals as goal
-
-pub returns-then-is_ok : goal.returns-then-is_ok
-returns-then-is_ok c =
-    taken_whole (table_rules c.args.bytes.now) c.args.bytes.now c.is_ok.result (exact_decides _ _ _ c.check.ensures c.is_ok.ensures.value) c.if-is_ok.true
 
 pub returns : goal.returns
 returns c =
