@@ -3,7 +3,7 @@ use Rattle.model.specs.File.{process}
 use Rattle.model.specs.Models.{settled_file}
 use Rattle.model.specs.declared.drafted.Settled.{Settled}
 use Rattle.process.specs.Noted.{Knows, Refuses}
-use Rattle.process.proofs.Knowing.{read_count}
+use Rattle.process.proofs.Knowing.{read_option}
 use Rattle.process.proofs.Lending.{model_kept}
 use Rattle.process.proofs.Listing.{model_row, listed_row, refused_row}
 use Rattle.process.proofs.Taking.{at_break}
@@ -31,4 +31,4 @@ returns-clause-listed c =
     let s = c.begin.new.self in
     let s' = c.steps.new.self in
     let k = subst (λ (z : Settled). Knows z s.rows.now s'.rows.now s.work.now s'.work.now c.args.r) (model_kept y.lent.2) c.in_ok-steps.ensures.learned in
-    listed_row c.args.self.now.model.now s.rows.now s.work.now _ _ c.args.r _ y.begun.loaded c.requires.row k (read_count s'.work.now c.args.r _ _ k.done c.known.ensures c.unwrap_or.ensures)
+    listed_row c.args.self.now.model.now s.rows.now s.work.now _ _ c.args.r _ y.begun.loaded c.requires.row k (read_option s'.work.now c.args.r _ _ k.done c.known.ensures c.unwrap_or.ensures)
