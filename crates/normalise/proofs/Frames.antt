@@ -215,7 +215,3 @@ module _ (R : Rel) (rows : List StateSet) (len : ℕ) where
               (cases_eq s n);
         },
       )
-
-  pub written_none : (b : List ℕ) → Written R rows len b 0 0
-  written_none b =
-      record { starts = λ s l. absurd (omega arith); ends = refl; within = λ s l. absurd (omega arith); lists = λ s l. absurd (omega arith) }

@@ -3,13 +3,10 @@ use Rattle.table.specs.Form.{start}
 use Rattle.systems.specs.Meaning.{Steps}
 use Rattle.systems.specs.Tables.{table_lts}
 use Rattle.normalise.specs.Writing.{Under}
-use Rattle.normalise.proofs.Frames.{under_none, under_past, under_more}
+use Rattle.normalise.proofs.Frames.{under_past, under_more}
 use Rattle.normalise.proofs.Counts.{large_step}
 use Rattle.normalise.proofs.small.Nodes.write_list.Goals as goal
 use Rattle.normalise.proofs.small.Nodes.write_list.Goals.{in-Some+else-place-room, in_default}
-
-pub loop-event-init : goal.loop-event-init
-loop-event-init c = under_none (Steps (table_lts c.args.self.now.of.table.bytes.now)) c.args.self.now.sets.now (length c.args.self.now.sets.now) _ _ _ c.requires.head c.requires.written
 
 pub returns-then-place-room : goal.returns-then-place-room
 returns-then-place-room c =
