@@ -16,9 +16,11 @@ pub fn bytes_at<const N: usize>(bytes: &[u8], at: usize) -> [u8; N]
     ensures { Window bytes.now at N result }
 {
     let here = &bytes[at.min(bytes.len())..];
-    let held = here.len().min(N);
+    if let Some(window) = here.first_chunk() {
+        return *window;
+    }
     let mut window = [0; N];
-    window[..held].copy_from_slice(&here[..held]);
+    window[..here.len()].copy_from_slice(here);
     window
 }
 
