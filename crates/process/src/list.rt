@@ -1,5 +1,5 @@
 // The steps of one row of a model.
-ghost use Rattle.std.specs.Prelude.{◌≡◌, ℕ, ◌<◌, ◌≤◌, min, length, vec_len, MatchResult};
+ghost use Rattle.std.specs.Prelude.{ℕ, ◌<◌, ◌≤◌, min, length, vec_len, MatchResult};
 ghost use Rattle.model.specs.File.{rows as rows_in, process};
 ghost use Rattle.model.specs.Models.{settled_file};
 ghost use Rattle.process.specs.Listed.{ListedAt, StepsListed};

@@ -1,5 +1,5 @@
 // How large the table of the states found is.
-ghost use Rattle.std.specs.Prelude.{◌≡◌, ℕ, ◌+◌, ◌*◌, ◌<◌, ◌≤◌, length, MatchResult};
+ghost use Rattle.std.specs.Prelude.{◌≡◌, ℕ, ◌+◌, ◌*◌, ◌≤◌, MatchResult};
 ghost use Rattle.model.specs.File.{process};
 ghost use Rattle.model.specs.Models.{settled_file};
 ghost use Rattle.process.specs.Explored.{Searching};

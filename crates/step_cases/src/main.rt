@@ -113,8 +113,8 @@ fn steps(
                     let event = step.event;
                     let next = step.next;
                     print!(rt; " {event} to {next} (")?;
-                    if (next as usize) < rows.len() {
-                        show(rt, rows[next as usize])?;
+                    if let Some(after) = rows.get(next as usize) {
+                        show(rt, *after)?;
                     }
                     print!(rt; ")")?;
                 }
@@ -126,12 +126,11 @@ fn steps(
 
 fn operators(rt: &HostRuntime, rows: &mut [Row], work: &mut Workspace) -> io::Result<()> {
     let mut lines = Vec::new(rt.alloc());
-    for pair in &ROWS {
-        lines.push(pair.1)?;
+    for (_, line) in &ROWS {
+        lines.push(*line)?;
     }
     let bytes = file_of(rt.alloc(), lines.as_slice(), &[26])?;
-    for i in 0..ROWS.len() {
-        let name = ROWS[i].0;
+    for (i, (name, _)) in ROWS.iter().enumerate() {
         print!(rt; "{i} {name}:")?;
         steps(rt, &bytes, i, rows, work)?;
     }
@@ -196,12 +195,7 @@ fn deep(rt: &HostRuntime, rows: &mut [Row], work: &mut Workspace) -> io::Result<
 }
 
 fn main(rt: HostRuntime) -> io::Result<()> {
-    let blank = Row {
-        op: Op::Stop,
-        left: 0,
-        right: 0,
-    };
-    let mut rows = vec![in rt.alloc(); blank; 9000]?;
+    let mut rows = vec![in rt.alloc(); Row::default(); 9000]?;
     let mut work = Workspace::new(rt.alloc(), 9000)?;
     operators(&rt, rows.as_mut_slice(), &mut work)?;
     doubled_names(&rt, rows.as_mut_slice(), &mut work)?;
