@@ -108,16 +108,14 @@ fn steps(
             print!(rt; " refused {number} at {place}")?;
         }
         Ok(n) => {
-            for k in 0..n {
-                if let Some(step) = work.step(row, k) {
-                    let event = step.event;
-                    let next = step.next;
-                    print!(rt; " {event} to {next} (")?;
-                    if let Some(after) = rows.get(next as usize) {
-                        show(rt, *after)?;
-                    }
-                    print!(rt; ")")?;
+            for step in (0..n).filter_map(|k| work.step(row, k)) {
+                let event = step.event;
+                let next = step.next;
+                print!(rt; " {event} to {next} (")?;
+                if let Some(after) = rows.get(next as usize) {
+                    show(rt, *after)?;
                 }
+                print!(rt; ")")?;
             }
         }
     }
