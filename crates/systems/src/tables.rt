@@ -31,6 +31,7 @@ impl System for Table<'_> {
     }
 }
 
+// A normal table answers as its table. (Its own text: each answer is one line already.)
 impl System for NormalTable<'_> {
     type State = u16;
 
