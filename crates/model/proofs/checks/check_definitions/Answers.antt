@@ -6,4 +6,4 @@ use Rattle.model.specs.Rules.{DefinitionOk}
 use Rattle.model.proofs.checks.check_definitions.Goals as goal
 
 pub returns : goal.returns
-returns c = passes (DefinitionOk c.args.file.bytes.now) FileDefinition (definitions c.args.file.bytes.now) _ c.first.result c.first.ensures c.definitions.ensures.value (λ k b h p. search rules)
+returns c = passes (DefinitionOk c.args.file.bytes.now) FileDefinition (definitions c.args.file.bytes.now) _ c.first.result c.first.ensures.tried c.definitions.ensures.value (λ k b h p. search rules)

@@ -5,4 +5,4 @@ use Rattle.model.specs.Rules.{PairOk}
 use Rattle.model.proofs.checks.check_pairs.Goals as goal
 
 pub returns : goal.returns
-returns c = passes (PairOk c.args.file.bytes.now) FilePair 3 _ c.first.result c.first.ensures refl (λ k b h p. search rules)
+returns c = passes (PairOk c.args.file.bytes.now) FilePair 3 _ c.first.result c.first.ensures.tried refl (λ k b h p. search rules)

@@ -6,4 +6,4 @@ use Rattle.model.specs.Rules.{RowNew}
 use Rattle.model.proofs.checks.check_repeats.Goals as goal
 
 pub returns : goal.returns
-returns c = passes (RowNew c.args.file.bytes.now) FileRepeat (rows c.args.file.bytes.now) _ c.first.result c.first.ensures c.rows.ensures.value (λ k b h p. search rules)
+returns c = passes (RowNew c.args.file.bytes.now) FileRepeat (rows c.args.file.bytes.now) _ c.first.result c.first.ensures.tried c.rows.ensures.value (λ k b h p. search rules)

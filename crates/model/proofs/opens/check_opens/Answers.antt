@@ -8,4 +8,4 @@ use Rattle.model.proofs.opens.check_opens.Goals as goal
 
 pub returns : goal.returns
 returns c =
-    passes (OpenOk (drafted_file c.args.draft.now)) ModelOpen (definitions (drafted_file c.args.draft.now)) _ c.first.result c.first.ensures c.definitions.ensures.value (λ k b h p. search rules)
+    passes (OpenOk (drafted_file c.args.draft.now)) ModelOpen (definitions (drafted_file c.args.draft.now)) _ c.first.result c.first.ensures.tried c.definitions.ensures.value (λ k b h p. search rules)

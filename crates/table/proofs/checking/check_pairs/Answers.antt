@@ -8,4 +8,4 @@ use Rattle.table.proofs.checking.check_pairs.Goals as goal
 pub returns : goal.returns
 returns c =
     let b = c.args.bytes.now in
-    passes (PairOk b) TablePair (max (states b) 1) _ c.first.result c.first.ensures (omega (arith, c.max-places.ensures)) (λ k r h s. search rules)
+    passes (PairOk b) TablePair (max (states b) 1) _ c.first.result c.first.ensures.tried (omega (arith, c.max-places.ensures)) (λ k r h s. search rules)

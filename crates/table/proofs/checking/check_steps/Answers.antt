@@ -8,4 +8,4 @@ use Rattle.table.proofs.checking.check_steps.Goals as goal
 pub returns : goal.returns
 returns c =
     let b = c.args.bytes.now in
-    passes (StepOk b) TableStep (all_steps b) _ c.first.result c.first.ensures c.steps_in-places.ensures (λ k r h s. search rules)
+    passes (StepOk b) TableStep (all_steps b) _ c.first.result c.first.ensures.tried c.steps_in-places.ensures (λ k r h s. search rules)

@@ -8,4 +8,4 @@ use Rattle.table.proofs.normal.check_lists.Goals as goal
 pub returns : goal.returns
 returns c =
     let b = c.args.table.now.bytes.now in
-    passes (NormalAt b) TableNormal (states b) _ c.first.result c.first.ensures c.states-places.ensures (λ k r h s. search rules)
+    passes (NormalAt b) TableNormal (states b) _ c.first.result c.first.ensures.tried c.states-places.ensures (λ k r h s. search rules)
