@@ -1,5 +1,5 @@
-// Each way in which a call of the engine refuses, by name. A refusal's layer and number, which
-// programs read, are given once, by `listed` of specs/Listing.antt.
+// Each way in which a call of the engine refuses, by name. A refusal's layer and number, which programs read, are
+// defined by `listed` of specs/Listing.antt, and told by the two functions below.
 ghost use Rattle.std.specs.Prelude.{◌≡◌};
 ghost use Rattle.fault.specs.Judged.{fault};
 ghost use Rattle.fault.specs.Listing.{layer, number};
@@ -60,7 +60,7 @@ impl From<Refusal> for Fault {
 }
 
 impl Refusal {
-    // The number that programs read, 1 to 27. A method and no `From`, since a refusal has a layer's number too.
+    // The number that programs read, 1 to 27. A method, and no cast or `From`, since a refusal has its layer's number too.
     pub fn number(self) -> u8
         ensures { result ≡ number self }
     {
@@ -95,7 +95,7 @@ impl Refusal {
         }
     }
 
-    // The layer that refuses: file 1, model 2, process 3, table 4, search 5, audit 6, script 7.
+    // The layer that refuses, a number since programs read it: file 1, model 2, process 3, table 4, search 5, audit 6, script 7.
     pub fn layer(self) -> u8
         ensures { result ≡ layer self }
     {

@@ -2,7 +2,7 @@
 ghost use Rattle.std.specs.Prelude.{◌≡◌};
 ghost use Rattle.first_seen.specs.Cleared.{cleared};
 
-// A kind of row that has a blank value.
+// A kind of row that has a blank value. Not `Default`, which says only what holds of a value, where the guards name it.
 pub trait Blank: Copy {
     ghost blank: { Self };
 

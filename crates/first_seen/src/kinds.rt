@@ -7,6 +7,7 @@ ghost use Rattle.first_seen.specs.Sameness.{both_exact};
 use crate::guard::Blank;
 use crate::list::Same;
 
+// One for each number type, since no trait of the library's says of each which value is 0.
 impl Blank for u8 {
     ghost blank = { 0 };
 

@@ -1,12 +1,7 @@
--- A number of several bytes is its first bytes, shifted, and the rest; past the end it is 0.
+-- A number of several bytes is its first bytes, shifted, and the rest.
 use Rattle.std.proofs.Common.{◌≡◌, ℕ, zero, suc, ◌+◌, ◌*◌, ◌<◌, ◌≤◌, List, length, get_or, refl, ap, ◌∙◌, add-zero, add_assoc, zero-add, arith}
 use Rattle.std.proofs.lemmas.List.{get_or_past}
 use Rattle.lent_bytes.specs.Reads.{be}
-
-pub be_past : (b : List ℕ) (i n : ℕ) → length b ≤ i → be b i n ≡ 0
-unfolding be
-be_past b i zero h = refl
-be_past b i (suc n) h = let p : length b ≤ i + n = omega arith in omega (arith, be_past b i n h, get_or_past b (i + n) 0 p)
 
 -- one more byte
 pub be_more : (b : List ℕ) (i n : ℕ) → be b i (suc n) ≡ 256 * be b i n + get_or b (i + n) 0

@@ -11,7 +11,7 @@ pub fn byte_at(bytes: &[u8], at: usize) -> u8
     bytes.get(at).copied().unwrap_or(0)
 }
 
-// The bytes from `at` on, as many as are asked for.
+// The bytes from `at` on, as many as are asked for. Where so many stand there they are taken at once, for speed.
 pub fn bytes_at<const N: usize>(bytes: &[u8], at: usize) -> [u8; N]
     ensures { Window bytes.now at N result }
 {
@@ -24,6 +24,7 @@ pub fn bytes_at<const N: usize>(bytes: &[u8], at: usize) -> [u8; N]
     window
 }
 
+// A reader for each width, since `from_be_bytes` is each type's own.
 pub fn u16_at(bytes: &[u8], at: usize) -> u16
     ensures { result ≡ be bytes.now at 2 }
 {

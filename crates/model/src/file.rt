@@ -47,6 +47,7 @@ impl File<'_> {
         u32_at(self.bytes, section.head() + 4)
     }
 
+    // A count for each section, since each says its own bound.
     pub fn masks(&self) -> usize
         ensures value { result ≡ masks_in self.now.bytes.now }
         ensures bound { result < 2 ^ 29 }
@@ -68,7 +69,8 @@ impl File<'_> {
         self.size(Section::Definitions) as usize / 2
     }
 
-    // The bits of mask k: the bit of value 2^i stands for event i.
+    // The bits of mask k: the bit of value 2^i stands for event i. An `if` here and in the next two, since `bool::then`
+    // reads no plainer and leaves its answer to be proved.
     pub fn mask(&self, k: usize) -> Option<u64>
         ensures { result ≡ (if nat_lt k (masks_in self.now.bytes.now) then Some (mask_at_lem self.now.bytes.now k) else None) }
     {
@@ -139,6 +141,7 @@ impl File<'_> {
         byte_at(self.bytes, self.row_place(i) + 1)
     }
 
+    // A reader for each field, so that calls name it.
     pub(crate) fn left_at(&self, i: u32) -> u16
         ensures { result ≡ left_at_lem self.now.bytes.now i }
     {

@@ -14,7 +14,8 @@ pub(crate) fn check_heights(file: File) -> Result<(), Fault>
     requires fit { Everywhere (row_rule file.bytes.now) }
     ensures { Passes (height_rule file.entry.bytes.now) result }
 {
-    // A fixed array, since the check allocates nothing; an index, since a row reads the heights of earlier rows.
+    // A fixed array, since the check allocates nothing; an index, since a row reads the heights of earlier rows. The
+    // same rule over term rows is in the crate `process`, where the heights stand in its workspace.
     let mut heights = [0u8; 4096];
     for place in 0..file.rows() {
         let row = file.row_at(place as u32);

@@ -19,7 +19,7 @@ static EMPTY: [u8; 28] = [
     0, 1, 0, 3, 0, 0, 0, 28, 0, 0, 0, 0, 0, 0, 0, 28, 0, 0, 0, 0, 0, 0, 0, 28, 0, 0, 0, 0,
 ];
 
-// The bytes if they are well formed, else the file without rows.
+// The bytes if they are well formed, else the file without rows. Settling has one of its own, which says one fact more.
 fn usable(bytes: &[u8]) -> &[u8]
     ensures taken { TakenUp bytes.now result.now }
     ensures facts { Facts result.now }

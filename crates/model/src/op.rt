@@ -42,7 +42,8 @@ pub struct Shape {
     pub right: Use,
 }
 
-// A process: an operator over rows that stand before it. A field that is no part is 0.
+// A process: an operator over rows that stand before it, by number, since a file's rows share their parts. A field
+// that is no part is 0.
 #[derive(Clone, Copy, PartialEq, Eq, Debug, Default)]
 pub struct Row {
     pub op: Op,

@@ -77,10 +77,8 @@ impl Parts {
 
 // The file with other bytes from a place on.
 pub fn patched(mut file: Vec<u8>, at: usize, bytes: &[u8]) -> Vec<u8> {
-    for (i, b) in bytes.iter().enumerate() {
-        if let Some(x) = file.get_mut(at.saturating_add(i)) {
-            *x = *b;
-        }
+    for (x, b) in file.iter_mut().skip(at).zip(bytes) {
+        *x = *b;
     }
     file
 }

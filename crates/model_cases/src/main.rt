@@ -4,6 +4,7 @@
 mod build;
 
 use build::{Parts, padded, patched};
+use fault::Code;
 use model::{Drafted, check};
 use std::alloc::Global;
 
@@ -16,17 +17,12 @@ fn settled_rows(file: &[u8]) -> usize {
 
 // Prints what check answers, or settling after it, and how many rows the settled model has.
 fn report(rt: &impl Print, name: &str, file: &[u8]) -> anyhow::Result<()> {
-    let mut answer = check(file);
-    if answer.is_ok() {
-        answer = Drafted::take_up(file).check_settled();
-    }
     let rows = settled_rows(file);
-    match answer {
+    match check(file).and_then(|()| Drafted::take_up(file).check_settled()) {
         Ok(()) => println!(rt; "{name}: settled, rows {rows}")?,
         Err(fault) => {
-            let number = fault.refusal.number();
-            let place = fault.place;
-            println!(rt; "{name}: {number} {place}, rows {rows}")?;
+            let code = Code(fault);
+            println!(rt; "{name}: {code}, rows {rows}")?;
         }
     }
     Ok(())

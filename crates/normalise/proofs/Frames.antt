@@ -93,21 +93,6 @@ module _ (b d : List ℕ) (i n : ℕ) (k : Kept b d i n) where
       }
 
 module _ (R : Rel) (rows : List StateSet) (len : ℕ) where
-  -- no step yet
-  pub under_none : (b : List ℕ) (n o : ℕ) → Head len b o → Written R rows len b n o → Under R rows len b n 1 o 0
-  under_none b n o h w =
-      record {
-        head = subst (λ (x : ℕ). Head len b x) (sym (add-zero o)) h;
-        written = w;
-        listing = record {
-          few = omega arith;
-          sound = λ k l. absurd (omega arith);
-          below = λ k l. absurd (omega arith);
-          rising = λ i k l m. absurd (omega arith);
-          full = λ f p l x y. absurd (omega arith);
-        };
-      }
-
   -- an event that leads nowhere
   pub under_past : (b : List ℕ) (n e o c : ℕ) → ((x : ℕ) → next R e (at rows n) x → ⊥) → Under R rows len b n e o c → Under R rows len b n (e + 1) o c
   under_past b n e o c none u =

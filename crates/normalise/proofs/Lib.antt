@@ -12,4 +12,3 @@ pub mod Counts
 pub mod Finals
 pub mod Whole
 pub mod Building
-pub mod Answering

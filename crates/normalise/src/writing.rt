@@ -14,7 +14,7 @@ use first_seen::find;
 const LARGEST: usize = 1048576;
 
 // That the sets are all nodes stays a clause of these: a ghost field holds a fact that has one proof at most, and a
-// proof of this one tells by which traces its nodes are reached.
+// proof of this one tells from which node and by which event each is reached, which the others need.
 impl Nodes<'_> {
     // The node that the event leads to from node n, or nothing.
     fn target(&self, n: usize, event: u8) -> Option<usize>
@@ -41,6 +41,7 @@ impl Nodes<'_> {
         ensures { ListWritten (Steps (table_lts self.now.of.table.bytes.now)) (start self.now.of.table.bytes.now) self.now.sets.now (length self.now.sets.now) (length out.old) out.new n begun result }
     {
         let room = out.len().min(LARGEST);
+        // Counted, since a step's place is by how many were written before it.
         let mut count = 0;
         for event in 1..64u8 {
             if let Some(k) = self.target(n, event) {

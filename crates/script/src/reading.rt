@@ -14,10 +14,10 @@ fn number(digits: &[u8]) -> Option<u16>
     }
     let mut n = 0u32;
     for b in digits {
-        if *b < 48 || *b > 57 {
+        if *b < b'0' || *b > b'9' {
             return None;
         }
-        n = n * 10 + (*b - 48) as u32;
+        n = n * 10 + (*b - b'0') as u32;
         if n > 65535 {
             return None;
         }
@@ -29,7 +29,7 @@ fn number(digits: &[u8]) -> Option<u16>
 fn space(line: &[u8]) -> Option<usize>
     ensures { result ≡ position (λ b. b == 32) line.now }
 {
-    line.iter().position(|b| *b == 32)
+    line.iter().position(|b| *b == b' ')
 }
 
 // The two row numbers of the line with the given number, counted from 1.
@@ -40,6 +40,7 @@ pub fn read_line(line: &[u8], place: usize) -> Result<Asked, Fault>
         refusal: Refusal::ScriptLine,
         place,
     };
+    // `let else`, since after `ok_or` a proof has to find again which part was wrong.
     let Some(at) = space(line) else {
         return Err(bad);
     };
