@@ -16,7 +16,8 @@ fn to(event: u8, target: u16) -> Step {
     Step { event, target }
 }
 
-// The bytes of a table: for each state where its steps begin and how many they are, then all steps.
+// The bytes of a table: for each state where its steps begin and how many they are, then all steps. The program of
+// `table` has such a builder too; one for both would need a crate of its own.
 fn bytes_of(
     heap: Global,
     start: u16,
