@@ -43,6 +43,7 @@ fn audit_nothing<D: System, S: Normal>(design: &D, spec: &S) -> Result<(), Fault
     audit(design, spec, &nothing)
 }
 
+// A refusal by the fields of its fault; each program words its own line.
 fn show(rt: &HostRuntime, what: &str, answer: Result<(), Fault>) -> io::Result<()> {
     match answer {
         Ok(()) => println!(rt; "{what}: accepted"),

@@ -15,6 +15,7 @@ const BLANK: Row = Work {
     event: 0,
 };
 
+// A refusal by the fields of its fault; each program words its own line.
 fn told(rt: &HostRuntime, what: &str, fault: Fault) -> io::Result<()> {
     let number = fault.refusal.number();
     let place = fault.place;

@@ -34,8 +34,5 @@ module _ (cs : List Rule) (c : Rule) (r : Answer) (x : Exact cs r) where
   judged_by q e p = exactly (cs ++ c ∷ []) q (judged_last cs c q (x.ok e) p)
 
 module _ (cs : List Rule) (b : List ℕ) (t : Bool) (d : Decides t (Meets cs)) where
-  pub taken_whole : t ≡ true → Taken cs b b
-  taken_whole e = record { whole = λ _. refl; refused = λ no. absurd (no (d.0 e)) }
-
   pub taken_bare : t ≡ false → Taken cs b bare
   taken_bare e = record { whole = λ m. absurd (not_from_Decides t d e m); refused = λ _. bare_is }
