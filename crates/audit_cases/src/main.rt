@@ -57,8 +57,7 @@ fn show(rt: &HostRuntime, what: &str, answer: Result<(), Fault>) -> io::Result<(
 
 // A register of a sample; one that is refused ends the program with an error.
 fn sample(limit: u16, up: u8, down: u8, iszero: u8) -> io::Result<Register> {
-    Register::new(limit, up, down, iszero)
-        .map_err(|_| io::Error::from(io::ErrorKind::InvalidInput))
+    Register::new(limit, up, down, iszero).map_err(|_| io::Error::from(io::ErrorKind::InvalidInput))
 }
 
 fn registers(

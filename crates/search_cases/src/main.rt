@@ -10,8 +10,7 @@ type Row = Work<u16, u16>;
 
 // A register of a sample; one that is refused ends the program with an error.
 fn sample(limit: u16, up: u8, down: u8, iszero: u8) -> io::Result<Register> {
-    Register::new(limit, up, down, iszero)
-        .map_err(|_| io::Error::from(io::ErrorKind::InvalidInput))
+    Register::new(limit, up, down, iszero).map_err(|_| io::Error::from(io::ErrorKind::InvalidInput))
 }
 
 // A refusal by the fields of its fault; each program words its own line.

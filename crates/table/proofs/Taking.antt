@@ -1,6 +1,6 @@
 -- A check that is exact decides whether every rule holds, what it gives of some rules goes into a check of more, and what holds
 -- of the rules holds of the view.
-use Rattle.std.proofs.Common.{◌≡◌, ℕ, Bool, true, false, List, [], ◌∷◌, ◌++◌, is_ok, Ok, Err, Decides, refl, inl, inr, arith}
+use Rattle.std.proofs.Common.{◌≡◌, ℕ, Bool, false, List, [], ◌∷◌, ◌++◌, is_ok, Ok, Err, Decides, refl, inl, inr, arith}
 use Rattle.std.proofs.lemmas.Bool.{both_ways}
 use Rattle.std.proofs.lemmas.Bool.Decides.{not_from_Decides}
 use Rattle.fault.specs.Judged.{Rule, Answer, Meets, Exact, Passes, Judged, FirstRefused}
