@@ -43,6 +43,7 @@ fn audit_nothing<D: System, S: Normal>(design: &D, spec: &S) -> Result<(), Fault
     audit(design, spec, &nothing)
 }
 
+// A refusal by the fields of its fault; each program words its own line.
 fn show(rt: &HostRuntime, what: &str, answer: Result<(), Fault>) -> io::Result<()> {
     match answer {
         Ok(()) => println!(rt; "{what}: accepted"),
@@ -52,6 +53,11 @@ fn show(rt: &HostRuntime, what: &str, answer: Result<(), Fault>) -> io::Result<(
             println!(rt; "{what}: refused {number} at {place}")
         }
     }
+}
+
+// A register of a sample; one that is refused ends the program with an error.
+fn sample(limit: u16, up: u8, down: u8, iszero: u8) -> io::Result<Register> {
+    Register::new(limit, up, down, iszero).map_err(|_| io::Error::from(io::ErrorKind::InvalidInput))
 }
 
 fn registers(
@@ -107,9 +113,7 @@ fn limits(rt: &HostRuntime, three: &Register) -> io::Result<()> {
     show(rt, "event 64", made(Register::new(3, 2, 3, 64)))?;
     show(rt, "event 1", made(Register::new(3, 2, 1, 4)))?;
     show(rt, "an event twice", made(Register::new(3, 2, 3, 2)))?;
-    let Ok(none) = Register::new(0, 2, 3, 4) else {
-        return Ok(());
-    };
+    let none = sample(0, 2, 3, 4)?;
     show(rt, "limit 0 against 3", audit(&none, three, &[(0, 0)]))?;
     show(rt, "limit 3 against 0", audit(three, &none, &[(0, 0)]))?;
     show(
@@ -203,15 +207,9 @@ fn side_by_side(rt: &HostRuntime) -> io::Result<()> {
 }
 
 fn main(rt: HostRuntime) -> io::Result<()> {
-    let Ok(three) = Register::new(3, 2, 3, 4) else {
-        return Ok(());
-    };
-    let Ok(four) = Register::new(4, 2, 3, 4) else {
-        return Ok(());
-    };
-    let Ok(renamed) = Register::new(3, 5, 3, 4) else {
-        return Ok(());
-    };
+    let three = sample(3, 2, 3, 4)?;
+    let four = sample(4, 2, 3, 4)?;
+    let renamed = sample(3, 5, 3, 4)?;
     registers(&rt, &three, &four, &renamed)?;
     limits(&rt, &three)?;
     tables(&rt, &three)?;

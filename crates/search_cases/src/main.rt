@@ -2,19 +2,18 @@
 #![tactic(auto)]
 
 use audit::audit;
-use search::{Advanced, Work, advance, begin, decide};
+use search::{Advanced, Blank, Work, advance, begin, decide};
 use std::io;
 use systems::{Fault, Register, Table};
 
 type Row = Work<u16, u16>;
 
-const BLANK: Row = Work {
-    design: 0,
-    spec: 0,
-    parent: 0,
-    event: 0,
-};
+// A register of a sample; one that is refused ends the program with an error.
+fn sample(limit: u16, up: u8, down: u8, iszero: u8) -> io::Result<Register> {
+    Register::new(limit, up, down, iszero).map_err(|_| io::Error::from(io::ErrorKind::InvalidInput))
+}
 
+// A refusal by the fields of its fault; each program words its own line.
 fn told(rt: &HostRuntime, what: &str, fault: Fault) -> io::Result<()> {
     let number = fault.refusal.number();
     let place = fault.place;
@@ -40,6 +39,7 @@ fn show(rt: &HostRuntime, what: &str, answer: Advanced) -> io::Result<()> {
     }
 }
 
+// (Rows, design and specification are lent apart here as the calls themselves take them.)
 // A search that still runs, or whose last call was refused, advanced once more.
 fn onward(
     at: Advanced,
@@ -139,12 +139,8 @@ fn audited(
 
 // Want of rows before and after a refused event in one unit, at the start pair.
 fn narrow(rt: &HostRuntime, rows: &mut [Row], spec: &Register) -> io::Result<()> {
-    let Ok(late) = Register::new(3, 2, 3, 5) else {
-        return Ok(());
-    };
-    let Ok(early) = Register::new(3, 9, 3, 2) else {
-        return Ok(());
-    };
+    let late = sample(3, 2, 3, 5)?;
+    let early = sample(3, 9, 3, 2)?;
     whole(rt, "no row, then a refused event", rows, 1, &late, spec)?;
     whole(rt, "the same with a row more", rows, 2, &late, spec)?;
     whole(rt, "a refused event, then no row", rows, 1, &early, spec)
@@ -158,9 +154,7 @@ const QUIET: [u8; 44] = [
 
 fn quiet(rt: &HostRuntime, rows: &mut [Row]) -> io::Result<()> {
     let design = Table::take_up(&QUIET);
-    let Ok(spec) = Register::new(1, 2, 3, 4) else {
-        return Ok(());
-    };
+    let spec = sample(1, 2, 3, 4)?;
     match decide(rows, &design, &spec) {
         Ok(answer) => show(rt, "tau counted", answer),
         Err(fault) => told(rt, "tau counted", fault),
@@ -169,26 +163,18 @@ fn quiet(rt: &HostRuntime, rows: &mut [Row]) -> io::Result<()> {
 
 // Limits in the thousands.
 fn high(rt: &HostRuntime, rows: &mut [Row]) -> io::Result<()> {
-    let Ok(lower) = Register::new(3000, 2, 3, 4) else {
-        return Ok(());
-    };
-    let Ok(upper) = Register::new(3001, 2, 3, 4) else {
-        return Ok(());
-    };
+    let lower = sample(3000, 2, 3, 4)?;
+    let upper = sample(3001, 2, 3, 4)?;
     whole(rt, "limit 3000 against 3001", rows, 4096, &lower, &upper)?;
     whole(rt, "limit 3001 against 3000", rows, 4096, &upper, &lower)?;
     whole(rt, "limit 3000 in 3000 rows", rows, 3000, &lower, &upper)
 }
 
 fn main(rt: HostRuntime) -> io::Result<()> {
-    let mut rows = [BLANK; 4096];
-    let mut other = [BLANK; 7];
-    let Ok(three) = Register::new(3, 2, 3, 4) else {
-        return Ok(());
-    };
-    let Ok(four) = Register::new(4, 2, 3, 4) else {
-        return Ok(());
-    };
+    let mut rows = [Row::blank(); 4096];
+    let mut other = [Row::blank(); 7];
+    let three = sample(3, 2, 3, 4)?;
+    let four = sample(4, 2, 3, 4)?;
     whole(&rt, "limit 3 against 4", &mut rows, 4096, &three, &four)?;
     audited(&rt, &mut rows, &three, &four)?;
     whole(&rt, "limit 4 against 3", &mut rows, 4096, &four, &three)?;

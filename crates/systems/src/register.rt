@@ -68,7 +68,7 @@ impl System for Register {
             (self.down, at - 1)
         };
         if at == self.limit {
-            return if k == 0 { Some(fall) } else { None };
+            return (k == 0).then_some(fall);
         }
         match k {
             0 => Some((self.up, at + 1)),
@@ -86,15 +86,11 @@ impl Normal for Register {
             return None;
         }
         if event == self.up {
-            return if at < self.limit { Some(at + 1) } else { None };
+            return (at < self.limit).then(|| at + 1);
         }
         if at == 0 {
-            return if event == self.iszero { Some(0) } else { None };
+            return (event == self.iszero).then_some(0);
         }
-        if event == self.down {
-            Some(at - 1)
-        } else {
-            None
-        }
+        (event == self.down).then_some(at - 1)
     }
 }

@@ -6,7 +6,7 @@ ghost use Rattle.systems.specs.Keeping.{table_keeps, table_keeps_lone};
 use crate::system::{Normal, System};
 use table::{NormalTable, Step, Table};
 
-// A step of a table, as a system answers it.
+// A step of a table, as a system answers it. (A `From` would stand in `table`, which knows no systems.)
 fn answer(step: Step) -> (u8, u16)
     ensures { result ≡ taken step }
 {
@@ -31,7 +31,7 @@ impl System for Table<'_> {
     }
 }
 
-// A normal table answers as its table. (Its own text: each answer is one line already.)
+// A normal table answers as its table. (Written out, not shared, since each answer is one line already.)
 impl System for NormalTable<'_> {
     type State = u16;
 

@@ -1,6 +1,6 @@
 -- A check that is exact decides whether every rule holds, what it gives of some rules goes into a check of more, and what holds
 -- of the rules holds of the view.
-use Rattle.std.proofs.Common.{◌≡◌, ℕ, Bool, true, false, List, [], ◌∷◌, ◌++◌, is_ok, Ok, Err, Decides, refl, inl, inr, arith}
+use Rattle.std.proofs.Common.{◌≡◌, ℕ, Bool, false, List, [], ◌∷◌, ◌++◌, is_ok, Ok, Err, Decides, refl, inl, inr, arith}
 use Rattle.std.proofs.lemmas.Bool.{both_ways}
 use Rattle.std.proofs.lemmas.Bool.Decides.{not_from_Decides}
 use Rattle.fault.specs.Judged.{Rule, Answer, Meets, Exact, Passes, Judged, FirstRefused}
@@ -34,8 +34,5 @@ module _ (cs : List Rule) (c : Rule) (r : Answer) (x : Exact cs r) where
   judged_by q e p = exactly (cs ++ c ∷ []) q (judged_last cs c q (x.ok e) p)
 
 module _ (cs : List Rule) (b : List ℕ) (t : Bool) (d : Decides t (Meets cs)) where
-  pub taken_whole : t ≡ true → Taken cs b b
-  taken_whole e = record { whole = λ _. refl; refused = λ no. absurd (no (d.0 e)) }
-
   pub taken_bare : t ≡ false → Taken cs b bare
   taken_bare e = record { whole = λ m. absurd (not_from_Decides t d e m); refused = λ _. bare_is }

@@ -9,7 +9,8 @@ use crate::fields::{
 };
 use fault::{Fault, Refusal, first};
 
-const LARGEST: usize = 1048576;
+// The most bytes of a table.
+pub const LARGEST: usize = 1048576;
 
 fn check_length(bytes: &[u8]) -> Result<(), Fault>
     ensures { Passes (length_rule bytes.now) result }

@@ -1,4 +1,5 @@
-// The fields of a table's bytes, as they stand there; past the end stand zeros.
+// The fields of a table's bytes, as they stand there; past the end stand zeros. A reader for each field, so that
+// calls name what they read.
 ghost use Rattle.std.specs.Prelude.{◌≡◌};
 ghost use Rattle.table.specs.Form.{states, start, all_steps, offset, size, floor, spare, step};
 
@@ -39,10 +40,9 @@ pub(crate) fn size_of(bytes: &[u8], state: u32) -> u32
 pub(crate) fn floor_of(bytes: &[u8], state: u32) -> u64
     ensures { result ≡ floor bytes.now state }
 {
-    match state.checked_sub(1) {
-        None => 0,
-        Some(before) => offset_of(bytes, before) as u64 + size_of(bytes, before) as u64,
-    }
+    state.checked_sub(1).map_or(0, |before| {
+        offset_of(bytes, before) as u64 + size_of(bytes, before) as u64
+    })
 }
 
 pub(crate) fn step_at(bytes: &[u8], place: u32) -> Step

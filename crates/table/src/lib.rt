@@ -9,7 +9,7 @@ pub mod read;
 pub mod step;
 pub mod view;
 
-pub use checking::check;
+pub use checking::{LARGEST, check};
 pub use list::StepsOf;
 pub use normal::check_normal;
 pub use step::Step;

@@ -1,5 +1,5 @@
-// The steps of a state, one after another. (`systems` has the same for every system. Tables stand below it, and one
-// text for both would take one trait more and an impl for each.)
+// The steps of a state, one after another. (Written out, not shared, since tables stand below `systems`, which has
+// the same for every system: one text for both would take one trait more and an impl for each.)
 ghost use Rattle.std.specs.Prelude.{drop};
 ghost use Rattle.std.specs.Iterator.{YieldsFirst, item_count};
 ghost use Rattle.table.specs.Form.{steps_of};

@@ -71,7 +71,7 @@ impl<'a> Table<'a> {
 
 impl<'a> NormalTable<'a> {
     // The normal table of the bytes; bytes that the check of normal tables refuses are taken up as one
-    // state without steps. (Its own text: what its check shows is more than a table's type says.)
+    // state without steps. (Written out, not shared, since what its check shows is more than a table's type says.)
     pub fn take_up(bytes: &'a [u8]) -> NormalTable<'a>
         ensures { Taken (normal_rules bytes.now) bytes.now result.table.bytes.now }
     {

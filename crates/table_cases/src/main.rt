@@ -71,7 +71,8 @@ static SAMPLES: [(&str, u16, &[(u32, u32)], &[(u8, u16)]); 27] = [
     ("again in a gap", 0, &[(0, 1)], &[(2, 0), (2, 0)]),
 ];
 
-// The bytes of a table: for each state where its steps begin and how many they are, then all steps.
+// The bytes of a table: for each state where its steps begin and how many they are, then all steps. (normalise_cases
+// has the same: two programs, and sharing would need a crate of its own.)
 fn bytes_of(
     heap: Global,
     start: u16,
@@ -93,6 +94,7 @@ fn bytes_of(
     Ok(bytes)
 }
 
+// A refusal by the fields of its fault; each program words its own line.
 fn answered(rt: &HostRuntime, answer: Result<(), fault::Fault>) -> io::Result<()> {
     match answer {
         Ok(()) => print!(rt; "yes"),
