@@ -39,8 +39,8 @@ fn show(rt: &HostRuntime, what: &str, answer: Advanced) -> io::Result<()> {
     }
 }
 
-// (Rows, design and specification are lent apart here as the calls themselves take them.)
-// A search that still runs, or whose last call was refused, advanced once more.
+// A search that still runs, or whose last call was refused, advanced once more. (Here and below the rows, the design
+// and the specification are lent apart, as the calls of `search` take them.)
 fn onward(
     at: Advanced,
     rows: &mut [Row],
