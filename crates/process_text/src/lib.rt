@@ -10,13 +10,13 @@ ghost use Rattle.process_text.specs.Shown.{ShowsSteps, step_text};
 use model::{Row, Settled};
 use model_text::lines::push_lines;
 use model_text::refusal_text;
-use process::{Step, Workspace, list_steps};
+use process::{Workspace, list_steps};
 use std::alloc::{AllocError, Global};
 
 // How many term rows are lent for listing a row's steps.
 const TERM_ROWS: usize = 8192;
 
-// Row i, or a row of zeros past the end.
+// Row i, or a row of zeros past the end: an entry or the default, once more for rows, since a generic one has no crate.
 fn row_at(rows: &[Row], i: usize) -> Row
     ensures { result ≡ slice_index_or rows.now i blank }
 {
@@ -35,7 +35,7 @@ fn step_line(
     requires step { k < 256 }
     ensures { IfOk result (λ s. string_bytes s ≡ step_text rows.now (slice_index_or work.now.pool.items (row * 256 + k) blank_step)) }
 {
-    let step = work.step(row, k).unwrap_or(Step { event: 0, next: 0 });
+    let step = work.step(row, k).unwrap();
     let event = step.event;
     let next = step.next;
     let process = row_at(rows, next as usize);
