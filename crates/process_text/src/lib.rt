@@ -3,7 +3,6 @@
 
 ghost use Rattle.std.specs.Prelude.{◌≡◌, ℕ, ◌+◌, ◌*◌, ◌<◌, ◌≤◌, min, ◌++◌, length, IfOk, vec_len, string_bytes, slice_index_or};
 ghost use Rattle.model.specs.Models.{settled_file};
-ghost use Rattle.model.specs.Rows.{blank};
 ghost use Rattle.process.specs.Slots.{blank_step};
 ghost use Rattle.process_text.specs.Shown.{ShowsSteps, step_text};
 
@@ -15,13 +14,6 @@ use std::alloc::{AllocError, Global};
 
 // How many term rows are lent for listing a row's steps.
 const TERM_ROWS: usize = 8192;
-
-// Row i, or a row of zeros past the end: an entry or the default, once more for rows, since a generic one has no crate.
-fn row_at(rows: &[Row], i: usize) -> Row
-    ensures { result ≡ slice_index_or rows.now i blank }
-{
-    rows.get(i).copied().unwrap_or_default()
-}
 
 // Step k of a row: the event, the row that the step leads to, and that row's process.
 fn step_line(
@@ -38,7 +30,7 @@ fn step_line(
     let step = work.step(row, k).unwrap();
     let event = step.event;
     let next = step.next;
-    let process = row_at(rows, next as usize);
+    let process = rows.get(next as usize).copied().unwrap_or_default();
     format!(in heap; "{event} -> R{next} = {process}\n")
 }
 

@@ -1,4 +1,4 @@
-use Rattle.std.proofs.Common.{◌≡◌, ℕ, ◌+◌, ◌*◌, ◌&&◌, ltb, List, ◌++◌, get_or, IfOk, Some, None, vec_items, vec_len, string_bytes, codes, decimal, Option, unwrap_or, sym, ap, ◌∙◌, subst}
+use Rattle.std.proofs.Common.{◌≡◌, ℕ, ◌+◌, ◌*◌, ◌&&◌, ltb, List, ◌++◌, get_or, IfOk, Some, None, vec_items, vec_len, string_bytes, codes, decimal, rules, Option, unwrap_or, sym, ap, ◌∙◌, subst}
 use Rattle.std.proofs.lemmas.Bool.{cond-true, and_from, lt-ltb}
 use Rattle.model.specs.declared.op.Row.{Row}
 use Rattle.model.specs.Rows.{blank}
@@ -21,4 +21,5 @@ returns c =
     in
     let e : x ≡ y = ap (λ (o : Option Step). unwrap_or o y) (sym c.unwrap-step.ensures ∙ found) in
     let P : ℕ → ℕ → Row → Type 0 = λ a n r. IfOk c.format.result (λ z. string_bytes z ≡ decimal a ++ (codes " -> R" ++ (decimal n ++ (codes " = " ++ (row_text_lem r ++ codes "\n"))))) in
-    subst (λ (z : Step). P z.event z.next (get_or rs z.next blank)) e (subst (P x.event x.next) c.row_at-process.ensures c.format.ensures.ok)
+    let g : c.unwrap_or_default-process.result ≡ get_or rs x.next blank = search rules in
+    subst (λ (z : Step). P z.event z.next (get_or rs z.next blank)) e (subst (P x.event x.next) g c.format.ensures.ok)
