@@ -2,7 +2,7 @@
 use Rattle.std.proofs.Common.{◌≡◌, ℕ, ◌+◌, List, [], ◌∷◌, ◌++◌, sym, ap, ◌∙◌, zero-add}
 use Rattle.std.specs.List.{range_with_len, flat_map}
 use Rattle.std.proofs.lemmas.List.FromFn.{map-range_with_len_more}
-use Rattle.std.proofs.lemmas.List.{flat_map_more, map-id, append-nil}
+use Rattle.std.proofs.lemmas.List.{flat_map_more, map-id}
 
 counting_more : (i : ℕ) → range_with_len 0 (i + 1) ≡ range_with_len 0 i ++ i ∷ []
 counting_more i =
@@ -11,6 +11,3 @@ counting_more i =
 pub grown : (f : ℕ → List ℕ) (head before after piece : List ℕ) (i : ℕ) → before ≡ head ++ flat_map f (range_with_len 0 i) → piece ≡ f i → after ≡ before ++ piece → after ≡ head ++ flat_map f (range_with_len 0 (i + 1))
 grown f head before after piece i e p a =
     a ∙ ap (λ (z : List ℕ). z ++ piece) e ∙ ap (λ (z : List ℕ). (head ++ flat_map f (range_with_len 0 i)) ++ z) p ∙ flat_map_more f head (range_with_len 0 i) i ∙ ap (λ (z : List ℕ). head ++ flat_map f z) (sym (counting_more i))
-
-pub not_grown : (f : ℕ → List ℕ) (head : List ℕ) → head ≡ head ++ flat_map f (range_with_len 0 0)
-not_grown f head = sym (append-nil head)

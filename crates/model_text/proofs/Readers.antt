@@ -1,12 +1,6 @@
--- A reader that answers within a bound gives the value there.
-use Rattle.std.proofs.Common.{◌≡◌, ℕ, ◌<◌, cond, ltb, Some, None, Option, unwrap_or, ap, ◌∙◌, subst}
-use Rattle.std.specs.Option.{UnwrapsOrElse}
+-- What is read at a place below the count is there.
+use Rattle.std.proofs.Common.{◌≡◌, ℕ, ◌<◌, cond, ltb, Some, None, Option, unwrap_or, sym, ap, ◌∙◌}
 use Rattle.std.proofs.lemmas.Bool.{cond-true, lt-ltb}
 
-pub read_or : {X : Type 0} (i n : ℕ) (o : Option X) (y d : X) → i < n → o ≡ cond (ltb i n) (Some y) None → unwrap_or o d ≡ y
-read_or i n o y d h e = ap (λ z. unwrap_or z d) (e ∙ cond-true (ltb i n) (Some y) None (lt-ltb i n h))
-
-pub read_else : {X : Type 0} (i n : ℕ) (o : Option X) (y r : X) (D : X → Type 0) → i < n → o ≡ cond (ltb i n) (Some y) None → UnwrapsOrElse o D r → r ≡ y
-read_else i n o y r D h e u =
-    let f : o ≡ Some y = e ∙ cond-true (ltb i n) (Some y) None (lt-ltb i n h) in
-    subst (λ p. UnwrapsOrElse p D r) f u
+pub read_there : {A : Type 0} (k n : ℕ) (o : Option A) (x y : A) → k < n → o ≡ cond (ltb k n) (Some x) None → o ≡ Some y → y ≡ x
+read_there k n o x y h told e = ap (λ (z : Option _). unwrap_or z y) (sym e ∙ told ∙ cond-true (ltb k n) (Some x) None (lt-ltb k n h))

@@ -51,7 +51,7 @@ fn mask_line(heap: Global, file: File, k: usize) -> Result<String, AllocError>
     requires { k < masks file.bytes.now }
     ensures { IfOk result (λ s. string_bytes s ≡ mask_line_lem file.entry.bytes.now k) }
 {
-    let set = set_text(heap, "", file.mask(k).unwrap_or(0))?;
+    let set = set_text(heap, "", file.mask(k).unwrap())?;
     format!(in heap; "M{k} = {set}\n")
 }
 
@@ -59,7 +59,7 @@ fn row_line(heap: Global, file: File, i: usize) -> Result<String, AllocError>
     requires { i < rows file.bytes.now }
     ensures { IfOk result (λ s. string_bytes s ≡ row_line_lem file.entry.bytes.now i) }
 {
-    let row = file.row(i).unwrap_or_default();
+    let row = file.row(i).unwrap();
     format!(in heap; "R{i} = {row}\n")
 }
 
@@ -67,7 +67,7 @@ fn definition_line(heap: Global, draft: &Drafted, d: usize) -> Result<String, Al
     requires { d < definitions (drafted_file draft.now) }
     ensures { IfOk result (λ s. string_bytes s ≡ definition_line_lem (drafted_file draft.now) d) }
 {
-    let body = draft.file().definition(d).unwrap_or(0);
+    let body = draft.file().definition(d).unwrap();
     let set = set_text(heap, "N", draft.open_in(body as usize))?;
     format!(in heap; "N{d} = R{body} opens {set}\n")
 }

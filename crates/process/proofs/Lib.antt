@@ -3,6 +3,7 @@ pub mod Stored
 pub mod Outs
 pub mod Falls
 pub mod Slotted
+pub mod Adding
 pub mod Interning
 pub mod Taking
 pub mod Siding

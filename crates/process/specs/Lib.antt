@@ -1,4 +1,5 @@
 pub mod Rows
+pub mod Sameness
 pub mod Sides
 pub mod Counting
 pub mod Going

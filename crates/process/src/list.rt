@@ -23,11 +23,12 @@ impl TermRows<'_> {
     {
         self.begin()?;
         self.steps(r)?;
-        Ok(self.work.known(r).unwrap_or(0))
+        Ok(self.work.known(r).unwrap())
     }
 }
 
-// The same over lent rows, as many as there are slots at most.
+// The same over lent rows, as many as there are slots at most. Rows and workspace apart, as the public call has them lent:
+// its caller reads both afterwards.
 fn listed(rows: &mut [Row], work: &mut Workspace, model: &Settled, r: u16) -> Result<usize, NoRoom>
     requires size { length rows.old ≤ vec_len work.old.lens }
     requires row { r < rows_in (settled_file model.now) }

@@ -1,4 +1,5 @@
-// The sides of the operators that read their parts: what a step of that side gives.
+// The sides of the operators that read their parts: what a step of that side gives. A mask stands beside its number in
+// each that has one, since a struct for the two would be made and taken apart at every use.
 #[derive(Clone, Copy)]
 pub enum Rule {
     // a name: its body's step

@@ -1,5 +1,5 @@
 -- A row whose steps were listed is one of the model's, so it has a slot, and its lines are those of the slot's steps.
-use Rattle.std.proofs.Common.{◌≡◌, ℕ, ◌+◌, ◌*◌, ◌<◌, ◌≤◌, List, [], ◌++◌, length, get_or, Ok, Err, vec_items, vec_len, Result, ap, ◌∙◌, ⊎_elim, arith}
+use Rattle.std.proofs.Common.{◌≡◌, ℕ, ◌+◌, ◌*◌, ◌<◌, ◌≤◌, List, [], ◌++◌, length, get_or, Ok, vec_items, vec_len, ap, ◌∙◌, ⊎_elim, arith}
 use Rattle.std.specs.List.{range_with_len, flat_map}
 use Rattle.std.proofs.lemmas.List.{length-append, length-take}
 use Rattle.std.proofs.lemmas.Bool.{cases_lt}
@@ -12,12 +12,9 @@ use Rattle.process.specs.Slots.{blank_step, slot}
 use Rattle.process_text.specs.Shown.{ShowsSteps, listed, step_text}
 use Rattle.process_text.proofs.Slotting.{slot_joined}
 
-never_both : {T E : Type 0} (x : T) (e : E) → ◌≡◌ {A = Result T E} (Ok x) (Err e) → ⊥
-never_both x e h = let z : ◌≡◌ {A = ℕ} 0 1 = cc in omega arith
-
 module _ (b : List ℕ) (r cap n : ℕ) (rs : List Row) (w : Workspace) (x : StepsListed b r cap rs w (Ok n)) where
   pub row_known : r < rows b
-  row_known = ⊎_elim (λ h. h) (λ h. absurd (never_both n _ (x.no_row h))) (cases_lt r (rows b))
+  row_known = ⊎_elim (λ h. h) (λ h. absurd (let e = x.no_row h in let z : ◌≡◌ {A = ℕ} 0 1 = cc in omega arith)) (cases_lt r (rows b))
 
   pub listed_at : ListedAt b rs w r n
   listed_at = x.row row_known

@@ -3,25 +3,17 @@
 
 ghost use Rattle.std.specs.Prelude.{◌≡◌, ℕ, ◌+◌, ◌*◌, ◌<◌, ◌≤◌, min, ◌++◌, length, IfOk, vec_len, string_bytes, slice_index_or};
 ghost use Rattle.model.specs.Models.{settled_file};
-ghost use Rattle.model.specs.Rows.{blank};
 ghost use Rattle.process.specs.Slots.{blank_step};
 ghost use Rattle.process_text.specs.Shown.{ShowsSteps, step_text};
 
 use model::{Row, Settled};
 use model_text::lines::push_lines;
 use model_text::refusal_text;
-use process::{Step, Workspace, list_steps};
+use process::{Workspace, list_steps};
 use std::alloc::{AllocError, Global};
 
 // How many term rows are lent for listing a row's steps.
 const TERM_ROWS: usize = 8192;
-
-// Row i, or a row of zeros past the end.
-fn row_at(rows: &[Row], i: usize) -> Row
-    ensures { result ≡ slice_index_or rows.now i blank }
-{
-    rows.get(i).copied().unwrap_or_default()
-}
 
 // Step k of a row: the event, the row that the step leads to, and that row's process.
 fn step_line(
@@ -35,10 +27,10 @@ fn step_line(
     requires step { k < 256 }
     ensures { IfOk result (λ s. string_bytes s ≡ step_text rows.now (slice_index_or work.now.pool.items (row * 256 + k) blank_step)) }
 {
-    let step = work.step(row, k).unwrap_or(Step { event: 0, next: 0 });
+    let step = work.step(row, k).unwrap();
     let event = step.event;
     let next = step.next;
-    let process = row_at(rows, next as usize);
+    let process = rows.get(next as usize).copied().unwrap_or_default();
     format!(in heap; "{event} -> R{next} = {process}\n")
 }
 

@@ -11,19 +11,14 @@ use std::{env, fs};
 fn row_asked(rt: &HostRuntime) -> anyhow::Result<Option<usize>> {
     let mut words = env::args(rt)?;
     let _ = words.next();
-    match words.next() {
-        None => Ok(None),
-        Some(word) => Ok(Some(word.as_str().parse::<usize>()?)),
-    }
+    let row = words.next().map(|word| word.as_str().parse::<usize>());
+    Ok(row.transpose()?)
 }
 
 fn main(rt: HostRuntime) -> anyhow::Result<()> {
     let heap = rt.alloc();
     // A file that cannot be read is as an empty one.
-    let bytes = match fs::read(&rt, "design.model") {
-        Ok(bytes) => bytes,
-        Err(_) => Vec::new(heap),
-    };
+    let bytes = fs::read(&rt, "design.model").unwrap_or_else(|_| Vec::new(heap));
     let text = show(heap, bytes.as_slice())?;
     rt.print(text)?;
     if let Some(row) = row_asked(&rt)? {

@@ -45,7 +45,8 @@ const ROWS: [(&'static str, Line); 27] = [
     ("a -> N", Line(3, A, 25, 0)),
 ];
 
-// The bytes of a model file with two visible events and the masks {} and {a}.
+// The bytes of a model file with two visible events and the masks {} and {a}. The program of model cases builds its own:
+// they are two programs, and sharing would need a crate of its own.
 fn file_of(heap: Global, lines: &[Line], definitions: &[u16]) -> Result<Vec<u8>, AllocError> {
     let rows = u32::try_from(lines.len()).unwrap_or(0).saturating_mul(8);
     let named = u32::try_from(definitions.len())
@@ -73,7 +74,7 @@ fn file_of(heap: Global, lines: &[Line], definitions: &[u16]) -> Result<Vec<u8>,
     Ok(bytes)
 }
 
-// A term row, with the numbers of its parts.
+// A term row, with the numbers of its parts. Not by the display of a row: the stored output has another form.
 fn show(rt: &HostRuntime, row: Row) -> io::Result<()> {
     let left = row.left;
     let right = row.right;
@@ -103,6 +104,7 @@ fn steps(
     let model = Drafted::take_up(bytes).settle();
     match list_steps(&model, row, rows, work) {
         Err(f) => {
+            // Not by `Code`: the stored output has another form.
             let number = f.refusal.number();
             let place = f.place;
             print!(rt; " refused {number} at {place}")?;

@@ -3,7 +3,7 @@ use Rattle.model.specs.declared.op.Row.{Row}
 use Rattle.model.specs.File.{rows, row_at}
 use Rattle.model.specs.Words.{row_text_lem}
 use Rattle.model_text.specs.Text.{row_line_lem}
-use Rattle.model_text.proofs.Readers.{read_else}
+use Rattle.model_text.proofs.Readers.{read_there}
 use Rattle.model_text.proofs.row_line.Goals as goal
 
 pub returns : goal.returns
@@ -11,5 +11,5 @@ unfolding row_line_lem
 returns c =
     let b : List ℕ = c.args.file.bytes.now in
     let i : ℕ = c.args.i in
-    let e : c.unwrap_or_default-row.result ≡ row_at b i = read_else i (rows b) c.row.result (row_at b i) c.unwrap_or_default-row.result _ c.requires c.row.ensures c.unwrap_or_default-row.ensures in
+    let e : c.unwrap-row.result ≡ row_at b i = read_there i (rows b) _ _ _ c.requires c.row.ensures c.unwrap-row.ensures in
     subst (λ (r : Row). IfOk c.format.result (λ s. string_bytes s ≡ codes "R" ++ (decimal i ++ (codes " = " ++ (row_text_lem r ++ codes "\n"))))) e c.format.ensures.ok

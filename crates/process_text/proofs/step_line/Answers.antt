@@ -1,4 +1,4 @@
-use Rattle.std.proofs.Common.{◌≡◌, ℕ, ◌+◌, ◌*◌, ◌&&◌, ltb, List, ◌++◌, get_or, IfOk, Some, None, vec_items, vec_len, string_bytes, codes, decimal, Option, unwrap_or, ap, ◌∙◌, subst}
+use Rattle.std.proofs.Common.{◌≡◌, ℕ, ◌+◌, ◌*◌, ◌&&◌, ltb, List, ◌++◌, get_or, IfOk, Some, None, vec_items, vec_len, string_bytes, codes, decimal, rules, Option, unwrap_or, sym, ap, ◌∙◌, subst}
 use Rattle.std.proofs.lemmas.Bool.{cond-true, and_from, lt-ltb}
 use Rattle.model.specs.declared.op.Row.{Row}
 use Rattle.model.specs.Rows.{blank}
@@ -14,11 +14,12 @@ returns c =
     let rs : List Row = c.args.rows.now in
     let w = c.args.work.now in
     let pool : List Step = vec_items w.pool in
-    let x : Step = c.unwrap_or-step.result in
+    let x : Step = c.unwrap-step.result in
     let y : Step = get_or pool (c.args.row * 256 + c.args.k) blank_step in
     let found : c.step.result ≡ Some y =
     c.step.ensures ∙ cond-true (ltb c.args.row (vec_len w.lens) && ltb c.args.k 256) (Some y) None (and_from _ _ (lt-ltb _ _ c.requires.slot) (lt-ltb _ _ c.requires.step))
     in
-    let e : x ≡ y = c.unwrap_or-step.ensures ∙ ap (λ (o : Option Step). unwrap_or o (record { event = 0; next = 0 })) found in
+    let e : x ≡ y = ap (λ (o : Option Step). unwrap_or o y) (sym c.unwrap-step.ensures ∙ found) in
     let P : ℕ → ℕ → Row → Type 0 = λ a n r. IfOk c.format.result (λ z. string_bytes z ≡ decimal a ++ (codes " -> R" ++ (decimal n ++ (codes " = " ++ (row_text_lem r ++ codes "\n"))))) in
-    subst (λ (z : Step). P z.event z.next (get_or rs z.next blank)) e (subst (P x.event x.next) c.row_at-process.ensures c.format.ensures.ok)
+    let g : c.unwrap_or_default-process.result ≡ get_or rs x.next blank = search rules in
+    subst (λ (z : Step). P z.event z.next (get_or rs z.next blank)) e (subst (P x.event x.next) g c.format.ensures.ok)

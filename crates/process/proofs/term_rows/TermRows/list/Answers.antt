@@ -1,4 +1,4 @@
-use Rattle.std.proofs.Common.{subst}
+use Rattle.std.proofs.Common.{ℕ, Option, unwrap_or, subst, sym, ap}
 use Rattle.model.specs.File.{process}
 use Rattle.model.specs.Models.{settled_file}
 use Rattle.model.specs.declared.drafted.Settled.{Settled}
@@ -31,4 +31,4 @@ returns-clause-listed c =
     let s = c.begin.new.self in
     let s' = c.steps.new.self in
     let k = subst (λ (z : Settled). Knows z s.rows.now s'.rows.now s.work.now s'.work.now c.args.r) (model_kept y.lent.2) c.in_ok-steps.ensures.learned in
-    listed_row c.args.self.now.model.now s.rows.now s.work.now _ _ c.args.r _ y.begun.loaded c.requires.row k (read_option s'.work.now c.args.r _ _ k.done c.known.ensures c.unwrap_or.ensures)
+    listed_row c.args.self.now.model.now s.rows.now s.work.now _ _ c.args.r _ y.begun.loaded c.requires.row k (read_option s'.work.now c.args.r _ _ k.done c.known.ensures (sym (ap (λ (o : Option ℕ). unwrap_or o 0) c.unwrap.ensures)))
