@@ -10,8 +10,7 @@ ghost use Rattle.normalise.specs.Writing.{Led, Head, Written, ListWritten, AllWr
 use crate::puts::{put, put_pair, put_step};
 use crate::small::Nodes;
 use first_seen::find;
-
-const LARGEST: usize = 1048576;
+use table::LARGEST;
 
 // That the sets are all nodes stays a clause of these: a ghost field holds a fact that has one proof at most, and a
 // proof of this one tells from which node and by which event each is reached, which the others need.
