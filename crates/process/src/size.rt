@@ -17,9 +17,8 @@ impl TermRows<'_> {
         ensures few { result ≤ 256 * n }
     {
         let mut all = 0;
-        // Each is read, so 0 for none is never taken; with `unwrap` the proof did not close.
         for r in &self.work.order[0..n] {
-            all += self.work.known(*r).unwrap_or(0);
+            all += self.work.known(*r).unwrap();
         }
         all
     }
