@@ -24,6 +24,7 @@ fn usable(bytes: &[u8]) -> &[u8]
     ensures taken { TakenUp bytes.now result.now }
     ensures facts { Facts result.now }
 {
+    // By arms, since after `is_ok` a proof has to find again what the check said.
     match check(bytes) {
         Ok(()) => bytes,
         Err(_) => &EMPTY,

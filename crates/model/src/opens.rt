@@ -10,7 +10,7 @@ use crate::drafted::Drafted;
 use crate::op::{Op, Row};
 use fault::{Fault, Refusal, first};
 
-// The set of a row, empty past the rows.
+// The set of a row, empty past the rows; a name for what three places read.
 pub(crate) fn set_at(sets: &[u64], row: usize) -> u64
     ensures { result ≡ slice_index sets.now row }
 {

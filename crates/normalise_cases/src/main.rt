@@ -83,6 +83,7 @@ fn tell(rt: &HostRuntime, name: &str, bytes: &[u8], sets: usize, room: usize) ->
             let end = size.min(out.len());
             nodes(rt, &out.as_slice()[..end])?;
         }
+        // By the fields of the fault: each program of cases words its own line.
         Err(f) => {
             let number = f.refusal.number();
             let place = f.place;
