@@ -94,7 +94,7 @@ impl File<'_> {
     fn row_ok(&self, i: u32) -> bool
         ensures { Decides result (RowOk self.now.bytes.now i) }
     {
-        // By arms: of `is_some_and` the check knows too little.
+        // By arms: `is_some_and` was tried, and the proof did not close.
         match self.op_at(i) {
             None => false,
             Some(op) => self.fields_ok(i, op),

@@ -174,7 +174,7 @@ impl File<'_> {
     pub(crate) fn row_at(&self, i: u32) -> Row
         ensures { result ≡ row_at self.now.bytes.now i }
     {
-        // By arms, as `row_from` of the specs has them.
+        // By arms, as `row_from` of the specs has them: a chain over the `Option` is no plainer.
         match self.op_at(i) {
             None => Row::default(),
             Some(op) => row_with(op, self.left_at(i), self.right_at(i)),

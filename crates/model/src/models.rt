@@ -24,7 +24,7 @@ fn usable(bytes: &[u8]) -> &[u8]
     ensures taken { TakenUp bytes.now result.now }
     ensures facts { Facts result.now }
 {
-    // By arms, since after `is_ok` a proof has to find again what the check said.
+    // By arms: `is_ok` was tried, and the proof of what the check said did not close.
     match check(bytes) {
         Ok(()) => bytes,
         Err(_) => &EMPTY,

@@ -13,6 +13,7 @@ pub fn push_lines<F: Fn(usize) -> Result<String, AllocError>>(
     requires { (k : ℕ) → k < n → F.pre line k }
     ensures { OnOk result (Appends string_bytes (F.post line) n (string_bytes out.old) (string_bytes out.new)) }
 {
+    // By number: the closure is asked for each.
     for k in 0..n {
         let piece = line(k)?;
         out.push_str(&piece)?;

@@ -40,7 +40,7 @@ pub fn read_line(line: &[u8], place: usize) -> Result<Asked, Fault>
         refusal: Refusal::ScriptLine,
         place,
     };
-    // `let else`, since after `ok_or` a proof has to find again which part was wrong.
+    // `let else`: `ok_or` was tried, and the proof which part was wrong did not close.
     let Some(at) = space(line) else {
         return Err(bad);
     };

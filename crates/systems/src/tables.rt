@@ -6,7 +6,8 @@ ghost use Rattle.systems.specs.Keeping.{table_keeps, table_keeps_lone};
 use crate::system::{Normal, System};
 use table::{NormalTable, Step, Table};
 
-// A step of a table, as a system answers it. (A `From` would stand in `table`, which knows no systems.)
+// A step of a table, as a system answers it. (A `From` would stand in `table`, and a
+// pair of numbers would not say there which is the event.)
 fn answer(step: Step) -> (u8, u16)
     ensures { result ≡ taken step }
 {
