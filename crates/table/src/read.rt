@@ -85,6 +85,28 @@ impl<'a> NormalTable<'a> {
         }
     }
 
+    // How many states the table has, 1 to 65,535. This and the next two stand beside `Deref`, since a trait in scope
+    // whose methods have the same names would be found before what `Deref` leads to.
+    pub fn states(&self) -> u16
+        ensures { result ≡ states self.now.table.bytes.now }
+    {
+        self.table.states()
+    }
+
+    pub fn start(&self) -> u16
+        ensures { result ≡ start self.now.table.bytes.now }
+    {
+        self.table.start()
+    }
+
+    // Entry `k` of a state's list, or nothing past its end.
+    pub fn step(&self, state: u16, k: usize) -> Option<Step>
+        ensures entry { result ≡ slice_get (steps_of self.now.table.bytes.now state) k }
+        ensures lawful { Lawful self.now.table.bytes.now }
+    {
+        self.table.step(state, k)
+    }
+
     // The one state that the event leads to from a state, or nothing where its list has no such event.
     pub fn after(&self, state: u16, event: u8) -> Option<u16>
         ensures value { result ≡ follow (steps_of self.now.table.bytes.now state) event }
