@@ -6,4 +6,4 @@ pub mod kinds;
 pub mod list;
 
 pub use guard::{Blank, Clearing, Unfinished, clear};
-pub use list::{FirstSeen, Full, Noted, Same, find};
+pub use list::{FirstSeen, Full, Noted, Same, find, find_among};

@@ -1,5 +1,5 @@
 use crate::gather::gather;
-use first_seen::{FirstSeen, Full, Noted, Unfinished, find};
+use first_seen::{FirstSeen, Full, Noted, Unfinished, find, find_among};
 use search::Work;
 
 fn row(design: u16, spec: u16, parent: u16) -> Work<u16, u16> {
@@ -28,6 +28,8 @@ fn found_placed_full(rt: HostRuntime) {
     assert!(rt; FirstSeen::over(&mut rows, 0).find(&5).is_none());
     assert!(rt; FirstSeen::over(&mut rows, 9).find(&5) == Some(0));
     assert!(rt; find(&rows, &5) == Some(0));
+    assert!(rt; find_among(&rows, 0, &5).is_none());
+    assert!(rt; find_among(&rows, 9, &5) == Some(0));
     let mut list = FirstSeen::over(&mut rows, 1);
     assert!(rt; list.room() == 2);
     assert!(rt; list.note(5) == Ok(Noted::Found(0)));
