@@ -65,7 +65,9 @@ impl<'a> Drafted<'a> {
         if i >= self.file.rows() {
             return 0;
         }
-        set_at(&open_sets(self), i)
+        let mut sets = [0u64; 4096];
+        open_sets(self, &mut sets);
+        set_at(&sets, i)
     }
 
     // The model's bytes if it is settled, else the file without rows.

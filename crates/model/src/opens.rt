@@ -38,18 +38,17 @@ fn open_set(row: Row, sets: &[u64]) -> u64
     }
 }
 
-// The open definitions of each row, in a fixed array since settling allocates nothing.
-pub(crate) fn open_sets(draft: &Drafted) -> [u64; 4096]
-    ensures { OpenedBelow (drafted_file draft.now) result (rows (drafted_file draft.now)) }
+// Writes the open definitions of each row to a fixed array of the caller's, since settling allocates nothing and the
+// array is large: one handed back would stand on the stack twice.
+pub(crate) fn open_sets(draft: &Drafted, sets: &mut [u64; 4096])
+    ensures { OpenedBelow (drafted_file draft.now) sets.new (rows (drafted_file draft.now)) }
 {
     let file = draft.file;
-    let mut sets = [0u64; 4096];
     // An index, since a row reads the sets of earlier rows.
     for i in 0..file.rows() {
-        let set = open_set(file.row_at(i as u32), &sets);
+        let set = open_set(file.row_at(i as u32), sets);
         sets[i] = set;
     }
-    sets
 }
 
 // Whether the body of definition d has only lower definitions open.
@@ -66,7 +65,8 @@ fn body_lower(draft: &Drafted, sets: &[u64], d: usize) -> bool
 pub(crate) fn check_opens(draft: &Drafted) -> Result<(), Fault>
     ensures { Passes (open_rule (drafted_file draft.now)) result }
 {
-    let sets = open_sets(draft);
+    let mut sets = [0u64; 4096];
+    open_sets(draft, &mut sets);
     first(
         |d| body_lower(draft, &sets, d),
         draft.file.definitions(),
