@@ -18,6 +18,9 @@ module _ {S : Type 0} (m : Lts S) (s : S) (k : ℕ) (x : ℕ × S) (at : Some x 
   pub step_few : Lawful m → k < 66048
   step_few lawful = let h = step_within in let f = lawful.few s in omega arith
 
+  pub step_low : Lawful m → x.0 < 64
+  step_low lawful = lawful.low s x.1 k x.0 (sym at)
+
 -- what a loop reads at place i
 pub nth_item : {X : Type 0} (xs : List X) (i : ℕ) (x : X) → i < length xs → x ≡ get_or xs i x → slice_get xs i ≡ Some x
 nth_item xs i x h e = slice_get_read xs (length xs) i x refl h e
