@@ -2,6 +2,8 @@
 #![tactic(auto)]
 
 pub mod lines;
+#[cfg(test)]
+mod tests;
 
 ghost use Rattle.std.specs.Prelude.{◌≡◌, ◌<◌, is_ok, IfOk, string_bytes};
 ghost use Rattle.model.specs.File.{masks, rows, definitions};
